@@ -10,8 +10,8 @@ use Rattle.js_grammar.specs.Sorts.{sort, named, numbered, quoted, member_word, k
 use Rattle.js_grammar.specs.Operators.{operator_at, sign, step, assign_op}
 use Rattle.js_grammar.specs.Tokens.{declares, lexical, is_of}
 use Rattle.js_names.specs.Scopes.{program_scope, function_scope, block_scope, for_three_scope, list_scope, for_of_scope}
-use Rattle.js_names.specs.Sites.{expr_sites, form_sites, exprs_sites, fields_sites, perhaps_sites, declarators_sites, start_sites, stmt_sites, stmt_form_sites, stmts_sites, item_sites, program_sites}
-use Rattle.js_names.specs.Places.{found, found_var, functions_of, repeated, blocked, see, places}
+use Rattle.js_names.specs.Unresolved.{expr_mentions, form_mentions, exprs_mentions, fields_mentions, perhaps_mentions, declarators_mentions, start_mentions, stmt_mentions, stmt_form_mentions, stmts_mentions, item_mentions, unresolved_mentions}
+use Rattle.js_names.specs.Mentions.{found, found_var, functions_of, repeated, blocked, look_up, mentions}
 use Rattle.js_names.specs.Slots.{assigned_in, holdings, slots_of, slot_count}
 use Rattle.js_names.specs.Rules.{fault_at, name_fault}
 use Rattle.bp_large.proofs.Tokens.{tokens_before, tokens_behind, tokens}
@@ -40,7 +40,7 @@ is_read size v supported is named = record { tree = tree_of size v; supported = 
 
 -- a number of this many digits
 pub reads : (size : ℕ) → 0 < size → size ≤ 10 → (v : ℕ) → IsRead (tokens size v)
-unfolding program_scope function_scope block_scope for_three_scope list_scope for_of_scope expr_sites form_sites exprs_sites fields_sites perhaps_sites declarators_sites start_sites stmt_sites stmt_form_sites stmts_sites item_sites program_sites found found_var functions_of repeated blocked see places assigned_in holdings slots_of slot_count fault_at name_fault tokens_before tokens_behind tokens sort named numbered quoted member_word key operator_at sign step assign_op declares lexical is_of readers turns run
+unfolding program_scope function_scope block_scope for_three_scope list_scope for_of_scope expr_mentions form_mentions exprs_mentions fields_mentions perhaps_mentions declarators_mentions start_mentions stmt_mentions stmt_form_mentions stmts_mentions item_mentions unresolved_mentions found found_var functions_of repeated blocked look_up mentions assigned_in holdings slots_of slot_count fault_at name_fault tokens_before tokens_behind tokens sort named numbered quoted member_word key operator_at sign step assign_op declares lexical is_of readers turns run
 reads zero h l v = absurd (omega (arith, h))
 reads (suc zero) h l v = is_read 1 v refl refl refl
 reads (suc (suc zero)) h l v = is_read 2 v refl refl refl

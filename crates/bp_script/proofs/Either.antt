@@ -17,8 +17,8 @@ use Rattle.js_lexer.proofs.Cutting.{cut_or_refused}
 use Rattle.js_tree.specs.Plain.{PlainItem}
 use Rattle.js_grammar.specs.Reading.{Found}
 use Rattle.js_grammar.specs.Unsupported.{first_unsupported}
-use Rattle.js_names.specs.declared.place.NameFault.{NameFault}
-use Rattle.js_names.specs.Places.{Place, places}
+use Rattle.js_names.specs.declared.mention.NameFault.{NameFault}
+use Rattle.js_names.specs.Mentions.{Mention, mentions}
 use Rattle.js_names.specs.Slots.{assigned_in, slot_count}
 use Rattle.js_names.specs.Rules.{name_fault, fault_at, sooner, comes_before, fails_unknown, fails_twice, fails_const, fails_capture, fails_loop_word, fails_return, fails_slots}
 use Rattle.js_parser.specs.Parse.{all_items}
@@ -116,7 +116,7 @@ named_if : (b : Bool) (f : NameFault) (o : Option NameFault) → (f ≡ NameFaul
 named_if true f o h k e = h (same_Some f NameFault.Memory e)
 named_if false f o h k e = k e
 
-named_at : (assigned : List ℕ) (count : ℕ → ℕ) (p : Place) → IsNamed (fault_at assigned count p)
+named_at : (assigned : List ℕ) (count : ℕ → ℕ) (p : Mention) → IsNamed (fault_at assigned count p)
 unfolding fault_at
 named_at assigned count p =
     named_if (fails_unknown p) (NameFault.Unknown p.name) _ (λ e. cc)
@@ -136,14 +136,14 @@ named_sooner None g h k = k
 named_sooner (Some f) None h k = h
 named_sooner (Some f) (Some g) h k = named_either (comes_before g f) f g h k
 
-named_all : (fault : Place → Option NameFault) (ps : List Place) (f : Option NameFault) → ((p : Place) → IsNamed (fault p)) → IsNamed f → IsNamed (fold (λ g p. sooner g (fault p)) f ps)
+named_all : (fault : Mention → Option NameFault) (ps : List Mention) (f : Option NameFault) → ((p : Mention) → IsNamed (fault p)) → IsNamed f → IsNamed (fold (λ g p. sooner g (fault p)) f ps)
 named_all fault [] f h k = k
 named_all fault (p ∷ ps) f h k = named_all fault ps (sooner f (fault p)) h (named_sooner f (fault p) k (h p))
 
 named : (tree : List PlainItem) → IsNamed (name_fault tree)
 unfolding name_fault
 named tree =
-    let ps = places tree in
+    let ps = mentions tree in
     let assigned = assigned_in ps in
     named_all (fault_at assigned (slot_count assigned ps)) ps None (named_at assigned (slot_count assigned ps)) (λ e. cc)
 

@@ -13,7 +13,7 @@ use Rattle.js_resolver.specs.Resolved.{resolved, unless_fault, program_of_tree}
 use Rattle.bp_script.specs.declared.refusal.Kind.{Kind}
 use Rattle.bp_script.specs.declared.refusal.Refusal.{Refusal}
 use Rattle.bp_script.specs.Programs.{AreCut, AreSpelled, AreAccepted, HasFlaw, HasRefusedToken, HasNameFault, IsWrong, fault_of, NeverBoth, OneProgram, EachIsProgram}
-use Rattle.js_names.specs.declared.place.NameFault.{NameFault}
+use Rattle.js_names.specs.declared.mention.NameFault.{NameFault}
 use Rattle.js_names.specs.Rules.{name_fault}
 
 pub same_tokens : (bytes : List ℕ) (a b : List Token) → AreCut bytes a → AreCut bytes b → a ≡ b

@@ -2,7 +2,7 @@
 use Rattle.std.proofs.Common.{◌≡◌, ℕ, List, refl, Option, Some, None}
 use Rattle.js_tree.specs.Plain.{PlainItem}
 use Rattle.js_program.specs.PlainProgram.{PlainProgram}
-use Rattle.js_names.specs.declared.place.NameFault.{NameFault}
+use Rattle.js_names.specs.declared.mention.NameFault.{NameFault}
 use Rattle.js_names.specs.Rules.{name_fault}
 use Rattle.js_resolver.specs.Resolved.{resolved, unless_fault, program_of_tree}
 use Rattle.js_resolver.specs.Spelled.{IsSpelled}

@@ -13,7 +13,7 @@ use Rattle.js_tree.specs.declared.tree.Name.{Name}
 use Rattle.js_tree.specs.Plain.{PlainItem}
 use Rattle.js_grammar.specs.Trees.{IsTree}
 use Rattle.js_grammar.specs.Unsupported.{first_unsupported}
-use Rattle.js_names.specs.declared.place.NameFault.{NameFault}
+use Rattle.js_names.specs.declared.mention.NameFault.{NameFault}
 use Rattle.js_names.specs.Rules.{name_fault}
 use Rattle.bp_script.specs.declared.refusal.Kind.{Kind}
 use Rattle.bp_script.specs.declared.refusal.Rule.{Rule}

@@ -1,7 +1,7 @@
 -- What reading a program refuses.
 use Rattle.std.specs.Prelude.{ℕ, List}
 use Rattle.js_parser.specs.declared.fault.ParseFault.{ParseFault}
-use Rattle.js_names.specs.declared.place.NameFault.{NameFault}
+use Rattle.js_names.specs.declared.mention.NameFault.{NameFault}
 use Rattle.js_tree.specs.declared.tree.Name.{Name}
 use Rattle.bp_script.specs.declared.refusal.Kind.{Kind}
 use Rattle.bp_script.specs.declared.refusal.Rule.{Rule}

@@ -12,7 +12,7 @@ use Rattle.js_tree.specs.declared.tree.Name.{Name}
 use Rattle.js_tree.specs.Plain.{PlainItem}
 use Rattle.js_grammar.specs.Trees.{IsTree, HasNoTree}
 use Rattle.js_grammar.specs.Unsupported.{first_unsupported}
-use Rattle.js_names.specs.declared.place.NameFault.{NameFault}
+use Rattle.js_names.specs.declared.mention.NameFault.{NameFault}
 use Rattle.js_names.specs.Rules.{name_fault}
 use Rattle.js_grammar.specs.Trees.{IsLineIn}
 use Rattle.js_program.specs.PlainProgram.{PlainProgram}

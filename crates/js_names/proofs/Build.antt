@@ -1,4 +1,4 @@
--- Small programs for the worked examples: every token on line 1, and places as the examples say.
+-- Small programs for the worked examples: every token on line 1, and offsets as the examples say.
 use Rattle.std.proofs.Common.{ℕ, ◌+◌, List, [], ◌∷◌}
 use Rattle.std.specs.Prelude.{pos}
 use Rattle.js_tree.specs.declared.tree.Name.{Name}
@@ -77,6 +77,6 @@ abbrev pub items : List PlainStmt → List PlainItem
 items [] = []
 items (s ∷ ss) = statement (spot 0) s ∷ items ss
 
--- a function declaration: the place of its first token, its name with its place
+-- a function declaration: the offset of its first token, its name with its offset
 abbrev pub declared_function : ℕ → List ℕ → ℕ → List Name → List PlainStmt → PlainItem
 declared_function p text q names ss = function_of (spot p) (name text q) names (stmts_of ss)

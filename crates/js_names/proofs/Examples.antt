@@ -5,11 +5,11 @@ use Rattle.js_tree.specs.declared.tree.DeclareKind.TheVariants.{Const, Let, Var}
 use Rattle.js_tree.specs.declared.tree.Name.{Name}
 use Rattle.js_tree.specs.Plain.{PlainStmt, PlainItem, statement}
 use Rattle.js_names.specs.declared.limits.TheConstants.{MOST_SLOTS}
-use Rattle.js_names.specs.declared.place.NameFault.{NameFault}
-use Rattle.js_names.specs.declared.place.NameFault.TheVariants.{Unknown, Twice, AssignConst, Capture, LoopWord, ReturnPlace, Slots}
+use Rattle.js_names.specs.declared.mention.NameFault.{NameFault}
+use Rattle.js_names.specs.declared.mention.NameFault.TheVariants.{Unknown, Twice, AssignConst, Capture, LoopWord, ReturnPlace, Slots}
 use Rattle.js_names.specs.Scopes.{program_scope, function_scope, block_scope, for_three_scope, list_scope, for_of_scope}
-use Rattle.js_names.specs.Sites.{expr_sites, form_sites, exprs_sites, fields_sites, perhaps_sites, declarators_sites, start_sites, stmt_sites, stmt_form_sites, stmts_sites, item_sites, program_sites}
-use Rattle.js_names.specs.Places.{found, found_var, functions_of, repeated, blocked, see, places}
+use Rattle.js_names.specs.Unresolved.{expr_mentions, form_mentions, exprs_mentions, fields_mentions, perhaps_mentions, declarators_mentions, start_mentions, stmt_mentions, stmt_form_mentions, stmts_mentions, item_mentions, unresolved_mentions}
+use Rattle.js_names.specs.Mentions.{found, found_var, functions_of, repeated, blocked, look_up, mentions}
 use Rattle.js_names.specs.Slots.{assigned_in, holdings, slots_of, slot_count}
 use Rattle.js_names.specs.Rules.{fault_at, name_fault}
 use Rattle.js_names.proofs.Build.{spot, name, one, uses, sets, counts, dot, calls, arrow, made, declares, bare, does, block_of, loop, breaks, returns, counted, each, items, declared_function}
@@ -54,7 +54,7 @@ pub unknown_names : Answered (
     -- bp.log.info
     ∷ broken (does (dot (dot (uses (codes "bp") 0) (codes "log")) (codes "info")) ∷ []) (Unknown (name (codes "bp.log") 0))
     ∷ [])
-unfolding program_scope function_scope block_scope for_three_scope list_scope for_of_scope expr_sites form_sites exprs_sites fields_sites perhaps_sites declarators_sites start_sites stmt_sites stmt_form_sites stmts_sites item_sites program_sites found found_var functions_of repeated blocked see places assigned_in holdings slots_of slot_count fault_at name_fault
+unfolding program_scope function_scope block_scope for_three_scope list_scope for_of_scope expr_mentions form_mentions exprs_mentions fields_mentions perhaps_mentions declarators_mentions start_mentions stmt_mentions stmt_form_mentions stmts_mentions item_mentions unresolved_mentions found found_var functions_of repeated blocked look_up mentions assigned_in holdings slots_of slot_count fault_at name_fault
 unknown_names = refl
 
 -- which declarations clash
@@ -80,7 +80,7 @@ pub clashes : Answered (
     -- for (const x of 1) { let x = 1 }
     ∷ kept (each Const x 11 one (block_of (declares Let x 25 one 30 ∷ [])) ∷ [])
     ∷ [])
-unfolding program_scope function_scope block_scope for_three_scope list_scope for_of_scope expr_sites form_sites exprs_sites fields_sites perhaps_sites declarators_sites start_sites stmt_sites stmt_form_sites stmts_sites item_sites program_sites found found_var functions_of repeated blocked see places assigned_in holdings slots_of slot_count fault_at name_fault
+unfolding program_scope function_scope block_scope for_three_scope list_scope for_of_scope expr_mentions form_mentions exprs_mentions fields_mentions perhaps_mentions declarators_mentions start_mentions stmt_mentions stmt_form_mentions stmts_mentions item_mentions unresolved_mentions found found_var functions_of repeated blocked look_up mentions assigned_in holdings slots_of slot_count fault_at name_fault
 clashes = refl
 
 -- what is assigned
@@ -94,7 +94,7 @@ pub assignments : Answered (
     -- function x() {} x = 1
     ∷ (declared_function 0 x 9 [] [] ∷ statement (spot 16) (does (sets x 16)) ∷ [], Some (AssignConst (name x 16)))
     ∷ [])
-unfolding program_scope function_scope block_scope for_three_scope list_scope for_of_scope expr_sites form_sites exprs_sites fields_sites perhaps_sites declarators_sites start_sites stmt_sites stmt_form_sites stmts_sites item_sites program_sites found found_var functions_of repeated blocked see places assigned_in holdings slots_of slot_count fault_at name_fault
+unfolding program_scope function_scope block_scope for_three_scope list_scope for_of_scope expr_mentions form_mentions exprs_mentions fields_mentions perhaps_mentions declarators_mentions start_mentions stmt_mentions stmt_form_mentions stmts_mentions item_mentions unresolved_mentions found found_var functions_of repeated blocked look_up mentions assigned_in holdings slots_of slot_count fault_at name_fault
 assignments = refl
 
 -- which variables an inner function can use
@@ -124,7 +124,7 @@ pub captures : Answered (
     -- for (const x of () => x) {}
     ∷ broken (each Const x 11 (arrow 16 [] (uses x 22)) (block_of []) ∷ []) (Capture (name x 22))
     ∷ [])
-unfolding program_scope function_scope block_scope for_three_scope list_scope for_of_scope expr_sites form_sites exprs_sites fields_sites perhaps_sites declarators_sites start_sites stmt_sites stmt_form_sites stmts_sites item_sites program_sites found found_var functions_of repeated blocked see places assigned_in holdings slots_of slot_count fault_at name_fault
+unfolding program_scope function_scope block_scope for_three_scope list_scope for_of_scope expr_mentions form_mentions exprs_mentions fields_mentions perhaps_mentions declarators_mentions start_mentions stmt_mentions stmt_form_mentions stmts_mentions item_mentions unresolved_mentions found found_var functions_of repeated blocked look_up mentions assigned_in holdings slots_of slot_count fault_at name_fault
 captures = refl
 
 -- where `break` and `return` stand, and which breach is told
@@ -142,10 +142,10 @@ pub words_and_order : Answered (
     -- (function() { const x = 1; () => x = 1 })
     ∷ broken (does (made 1 [] (declares Const x 20 one 25 ∷ does (arrow 27 [] (sets x 33)) ∷ [])) ∷ []) (AssignConst (name x 33))
     ∷ [])
-unfolding program_scope function_scope block_scope for_three_scope list_scope for_of_scope expr_sites form_sites exprs_sites fields_sites perhaps_sites declarators_sites start_sites stmt_sites stmt_form_sites stmts_sites item_sites program_sites found found_var functions_of repeated blocked see places assigned_in holdings slots_of slot_count fault_at name_fault
+unfolding program_scope function_scope block_scope for_three_scope list_scope for_of_scope expr_mentions form_mentions exprs_mentions fields_mentions perhaps_mentions declarators_mentions start_mentions stmt_mentions stmt_form_mentions stmts_mentions item_mentions unresolved_mentions found found_var functions_of repeated blocked look_up mentions assigned_in holdings slots_of slot_count fault_at name_fault
 words_and_order = refl
 
--- parameters and variables whose names differ in their one letter, from a place on
+-- parameters and variables whose names differ in their one letter, from an offset on
 abbrev names : ℕ → ℕ → List Name
 names zero p = []
 names (suc n) p = name (n ∷ []) p ∷ names n (p + 4)
@@ -166,5 +166,5 @@ pub slots : Answered (
     ∷ broken (does (made 1 (names MOST_SLOTS 10) (does (made 5000 (name (codes "bb") 5005 ∷ []) (use_all MOST_SLOTS 5020)) ∷ [])) ∷ []) (Slots (name [] 5000))
     ∷ kept (lets (suc MOST_SLOTS) 4)
     ∷ [])
-unfolding program_scope function_scope block_scope for_three_scope list_scope for_of_scope expr_sites form_sites exprs_sites fields_sites perhaps_sites declarators_sites start_sites stmt_sites stmt_form_sites stmts_sites item_sites program_sites found found_var functions_of repeated blocked see places assigned_in holdings slots_of slot_count fault_at name_fault
+unfolding program_scope function_scope block_scope for_three_scope list_scope for_of_scope expr_mentions form_mentions exprs_mentions fields_mentions perhaps_mentions declarators_mentions start_mentions stmt_mentions stmt_form_mentions stmts_mentions item_mentions unresolved_mentions found found_var functions_of repeated blocked look_up mentions assigned_in holdings slots_of slot_count fault_at name_fault
 slots = refl

@@ -6,11 +6,11 @@ use Rattle.std.proofs.lemmas.Bool.{eq-eqb, or_left, or_right}
 use Rattle.std.proofs.lemmas.List.Folds.{flat_map-map, list_any-append}
 use Rattle.std.proofs.lemmas.List.Sums.{fold-append}
 use Rattle.js_data.proofs.Shared.{flat_map_take, kept-append}
-use Rattle.js_names.specs.declared.place.Seen.{Seen}
-use Rattle.js_names.specs.declared.place.Declared.{Declared}
-use Rattle.js_names.specs.Places.{Place}
+use Rattle.js_names.specs.declared.mention.Mention.{Mention as HeldMention}
+use Rattle.js_names.specs.declared.mention.Declared.{Declared}
+use Rattle.js_names.specs.Mentions.{Mention}
 use Rattle.js_names.specs.Slots.{Holding, hold, held_by, holds_all, inside, is_among, joins, copies, captures_of, holdings, slots_of, captures, captures_in, parameter_in, variable_in, var_in, vars_of}
-use Rattle.js_names.specs.Views.{place_of}
+use Rattle.js_names.specs.Views.{mention_of}
 use Rattle.js_names.specs.Held.{Sets, keys_of, held_in, Holds}
 
 -- what a function holds by two lists
@@ -86,9 +86,9 @@ holds_again f xs i d x a b at y h e l g s t = λ q.
     let has : Has (fold joins (held_in a q) before) (held_by q (f x)) = subst (λ z. Has (fold joins (held_in a q) before) (held_by q z)) s (has_of q f (take i xs) at y y (held_in a q) l g) in
     t q ∙ sym (ap (fold joins (held_in a q)) more ∙ (fold-append joins (held_in a q) before (held_by q (f x)) ∙ has_same (fold joins (held_in a q) before) (held_by q (f x)) has))
 
--- the captures of a place that mentions a variable which can be copied
-pub made_captures : (assigned : List ℕ) (p : Place) (d : Declared) → p.declared ≡ Some d → copies assigned p d ≡ true → holds_all d.place (inside d.owner p.functions) ≡ captures_in assigned p
-made_captures assigned p d e k = sym (ap (captures_of assigned p) e ∙ ap (λ (b : Bool). if b then holds_all d.place (inside d.owner p.functions) else []) k)
+-- the captures of a mention that uses a variable which can be copied
+pub made_captures : (assigned : List ℕ) (p : Mention) (d : Declared) → p.declared ≡ Some d → copies assigned p d ≡ true → holds_all d.offset (inside d.owner p.functions) ≡ captures_in assigned p
+made_captures assigned p d e k = sym (ap (captures_of assigned p) e ∙ ap (λ (b : Bool). if b then holds_all d.offset (inside d.owner p.functions) else []) k)
 
 -- a capture into the first of some functions, and into the rest
 held_first : (q f v : ℕ) (h rest : List ℕ) → fold joins (fold joins h (held_by q (hold f v ∷ []))) rest ≡ fold joins h (if nat_eq f q then v ∷ rest else rest)
@@ -105,30 +105,30 @@ inside_step q f v owner fs h n ne e =
 pub inside_stop : (q f v owner : ℕ) (fs h : List ℕ) → nat_eq f owner ≡ true → h ≡ fold joins h (held_by q (holds_all v (inside owner (f ∷ fs))))
 inside_stop q f v owner fs h e = ap (λ b. fold joins h (held_by q (holds_all v (if b then [] else f ∷ inside owner fs)))) (sym e)
 
--- a list of places, as the walk holds them
-pub flat_map_seen : {A : Type 0} (f : Place → List A) (xs : List Seen) → flat_map (λ p. f (place_of p)) xs ≡ flat_map f (map place_of xs)
-flat_map_seen f xs = sym (flat_map-map f place_of xs)
+-- a list of mentions, as the walk holds them
+pub flat_map_held : {A : Type 0} (f : Mention → List A) (xs : List HeldMention) → flat_map (λ p. f (mention_of p)) xs ≡ flat_map f (map mention_of xs)
+flat_map_held f xs = sym (flat_map-map f mention_of xs)
 
 -- a map that was empty holds what it took in
 from_empty : (a b : Sets) (hs : List Holding) → a.entries ≡ [] → Holds a b hs → (q : ℕ) → held_in b q ≡ fold joins [] (held_by q hs)
 from_empty a b hs e t q = t q ∙ ap (λ es. fold joins (keys_of (lookup (nat_eq q) es)) (held_by q hs)) e
 
-pub slots_taken : (assigned : List ℕ) (ps : List Seen) (a d : Sets) → a.entries ≡ []
-    → Holds a d (flat_map (λ p. parameter_in (place_of p)) ps ++ (flat_map (λ p. captures_in assigned (place_of p)) ps ++ flat_map (λ p. variable_in assigned (place_of p)) ps))
-    → (q : ℕ) → held_in d q ≡ slots_of assigned q (map place_of ps)
+pub slots_taken : (assigned : List ℕ) (ps : List HeldMention) (a d : Sets) → a.entries ≡ []
+    → Holds a d (flat_map (λ p. parameter_in (mention_of p)) ps ++ (flat_map (λ p. captures_in assigned (mention_of p)) ps ++ flat_map (λ p. variable_in assigned (mention_of p)) ps))
+    → (q : ℕ) → held_in d q ≡ slots_of assigned q (map mention_of ps)
 unfolding slots_of holdings
 slots_taken assigned ps a d e h q =
     from_empty a d _ e h q
-    ∙ (ap (λ xs. fold joins [] (held_by q (xs ++ (flat_map (λ p. captures_in assigned (place_of p)) ps ++ flat_map (λ p. variable_in assigned (place_of p)) ps)))) (flat_map_seen parameter_in ps)
-    ∙ (ap (λ xs. fold joins [] (held_by q (flat_map parameter_in (map place_of ps) ++ (xs ++ flat_map (λ p. variable_in assigned (place_of p)) ps)))) (flat_map_seen (captures_in assigned) ps)
-    ∙ ap (λ xs. fold joins [] (held_by q (flat_map parameter_in (map place_of ps) ++ (flat_map (captures_in assigned) (map place_of ps) ++ xs)))) (flat_map_seen (variable_in assigned) ps)))
+    ∙ (ap (λ xs. fold joins [] (held_by q (xs ++ (flat_map (λ p. captures_in assigned (mention_of p)) ps ++ flat_map (λ p. variable_in assigned (mention_of p)) ps)))) (flat_map_held parameter_in ps)
+    ∙ (ap (λ xs. fold joins [] (held_by q (flat_map parameter_in (map mention_of ps) ++ (xs ++ flat_map (λ p. variable_in assigned (mention_of p)) ps)))) (flat_map_held (captures_in assigned) ps)
+    ∙ ap (λ xs. fold joins [] (held_by q (flat_map parameter_in (map mention_of ps) ++ (flat_map (captures_in assigned) (map mention_of ps) ++ xs)))) (flat_map_held (variable_in assigned) ps)))
 
-pub captures_taken : (assigned : List ℕ) (ps : List Seen) (a b : Sets) → a.entries ≡ [] → Holds a b (flat_map (λ p. captures_in assigned (place_of p)) ps)
-    → (q : ℕ) → held_in b q ≡ captures assigned q (map place_of ps)
+pub captures_taken : (assigned : List ℕ) (ps : List HeldMention) (a b : Sets) → a.entries ≡ [] → Holds a b (flat_map (λ p. captures_in assigned (mention_of p)) ps)
+    → (q : ℕ) → held_in b q ≡ captures assigned q (map mention_of ps)
 unfolding captures
-captures_taken assigned ps a b e h q = from_empty a b _ e h q ∙ ap (λ xs. fold joins [] (held_by q xs)) (flat_map_seen (captures_in assigned) ps)
+captures_taken assigned ps a b e h q = from_empty a b _ e h q ∙ ap (λ xs. fold joins [] (held_by q xs)) (flat_map_held (captures_in assigned) ps)
 
-pub vars_taken : (assigned : List ℕ) (ps : List Seen) (a b : Sets) → a.entries ≡ [] → Holds a b (flat_map (λ p. var_in assigned (place_of p)) ps)
-    → (q : ℕ) → held_in b q ≡ vars_of assigned q (map place_of ps)
+pub vars_taken : (assigned : List ℕ) (ps : List HeldMention) (a b : Sets) → a.entries ≡ [] → Holds a b (flat_map (λ p. var_in assigned (mention_of p)) ps)
+    → (q : ℕ) → held_in b q ≡ vars_of assigned q (map mention_of ps)
 unfolding vars_of
-vars_taken assigned ps a b e h q = from_empty a b _ e h q ∙ ap (λ xs. fold joins [] (held_by q xs)) (flat_map_seen (var_in assigned) ps)
+vars_taken assigned ps a b e h q = from_empty a b _ e h q ∙ ap (λ xs. fold joins [] (held_by q xs)) (flat_map_held (var_in assigned) ps)

@@ -2,13 +2,13 @@
 use Rattle.std.proofs.Common.{◌≡◌, ℕ, List, [], ◌∷◌, ◌++◌, ◌∙◌, ap, refl, Bool, true, false, not, ◌&&◌, ◌||◌, nat_lt, if◌then◌else◌}
 use Rattle.std.specs.Prelude.{is_some, codes}
 use Rattle.js_tree.specs.declared.tree.Name.{Name}
-use Rattle.js_names.specs.declared.place.Role.TheVariants.{Let, Var}
-use Rattle.js_names.specs.declared.place.What.{What}
-use Rattle.js_names.specs.declared.place.What.TheVariants.{Declares, Reads, Assigns, Misuses, LoopWord, Returns, Begins}
+use Rattle.js_names.specs.declared.mention.Role.TheVariants.{Let, Var}
+use Rattle.js_names.specs.declared.mention.What.{What}
+use Rattle.js_names.specs.declared.mention.What.TheVariants.{Declares, Reads, Assigns, Misuses, LoopWord, Returns, Begins}
 use Rattle.js_names.specs.Entries.{Entry, top}
 use Rattle.js_names.specs.Scopes.{Scope, named, first, one_var, kept, inner_scope, scope_with}
 use Rattle.js_names.specs.Forms.{is_reserved}
-use Rattle.js_names.specs.Places.{found, found_here, found_var, functions_of, owner_in, blocked, repeated, clashes, declared_at, is_earlier, is_parameter, is_var, or_else, test_of, see}
+use Rattle.js_names.specs.Mentions.{found, found_here, found_var, functions_of, owner_in, blocked, repeated, clashes, declared_at, is_earlier, is_parameter, is_var, or_else, test_of, look_up}
 use Rattle.js_names.specs.Kept.{IsOwn, KeepsEnough}
 use Rattle.js_names.proofs.Making.{kept_all}
 
@@ -37,7 +37,7 @@ module _ (own vars : List Entry) (owner : ℕ) (outside : List Scope) where
   same_blocked : (xs : List Scope) (q : List ℕ) (p : ℕ) → blocked (xs ++ less ∷ outside) q p ≡ blocked (xs ++ more ∷ outside) q p
   unfolding blocked
   same_blocked [] q p = refl
-  same_blocked (x ∷ xs) q p = ap (λ b. test_of (x.own q) (λ d. nat_lt d.place p && not (is_parameter d.role)) || (not x.whole && b)) (same_blocked xs q p)
+  same_blocked (x ∷ xs) q p = ap (λ b. test_of (x.own q) (λ d. nat_lt d.offset p && not (is_parameter d.role)) || (not x.whole && b)) (same_blocked xs q p)
 
   same_repeated : (xs : List Scope) (q : List ℕ) (p : ℕ) → (xs ≡ [] → is_some (first (named q own)) ≡ true) → repeated (xs ++ less ∷ outside) q p ≡ repeated (xs ++ more ∷ outside) q p
   unfolding repeated
@@ -76,7 +76,7 @@ module _ (own vars : List Entry) (owner : ℕ) (outside : List Scope) where
   same_clashes xs Begins name h = refl
 
 pub keeps_enough : KeepsEnough
-unfolding see
+unfolding look_up
 keeps_enough own vars owner inside outside around what name h = λ i. record {
   what = what;
   name = name;
@@ -92,7 +92,7 @@ abbrev lone : Scope → Bool
 lone s = clashes (Declares Let) (s ∷ []) (record { text = codes "x"; spot = record { at = 20; line = 1 } })
 
 abbrev var_before : List Entry
-var_before = record { name = codes "x"; declared = record { role = Var; place = 6; end = 7; owner = top; direct = false; given = 0 } } ∷ []
+var_before = record { name = codes "x"; declared = record { role = Var; offset = 6; end = 7; owner = top; direct = false; given = 0 } } ∷ []
 
 lone_less : lone (inner_scope [] var_before top) ≡ false
 unfolding repeated

@@ -8,11 +8,11 @@ use Rattle.std.specs.Prelude.{string_bytes}
 use Rattle.std.specs.HashMap.{get_by_text}
 use Rattle.js_tree.specs.declared.tree.Item.{Item}
 use Rattle.js_tree.specs.Views.{plain_item}
-use Rattle.js_names.specs.declared.place.Declared.{Declared}
+use Rattle.js_names.specs.declared.mention.Declared.{Declared}
 use Rattle.std.specs.Prelude.{is_some}
 use Rattle.js_names.specs.Entries.{Entry, own_of_item, vars_of_item}
 use Rattle.js_names.specs.Scopes.{first, named, one_var, merge, kept, inner_scope, scope_with}
-use Rattle.js_names.specs.Places.{or_else}
+use Rattle.js_names.specs.Mentions.{or_else}
 use Rattle.js_names.specs.Views.{scope_of}
 use Rattle.js_names.specs.Taken.{Names, keeps, in_map, TakesOwn, TakesVars, own_of_tree_item, vars_of_tree_item}
 use Rattle.js_names.proofs.Taking.{merge_none}

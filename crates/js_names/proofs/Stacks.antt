@@ -2,9 +2,9 @@
 use Rattle.std.proofs.Common.{◌≡◌, ℕ, ◌+◌, List, [], ◌∷◌, ◌++◌, if◌then◌else◌, ◌∙◌, ap, refl, sym, arith, length, take, get_or, take_all, append_assoc, ◌-◌, ◌<◌, ◌≤◌, Option, Some, None, Bool, true, false, not, ◌&&◌, ◌||◌, nat_lt}
 use Rattle.std.proofs.lemmas.List.{take_more}
 use Rattle.js_names.specs.declared.scope.Scope.{Scope as Held}
-use Rattle.js_names.specs.declared.place.Declared.{Declared}
+use Rattle.js_names.specs.declared.mention.Declared.{Declared}
 use Rattle.js_names.specs.Scopes.{Scope}
-use Rattle.js_names.specs.Places.{functions_of, owner_in, found, found_here, found_var, or_else, blocked, repeated, test_of, is_parameter}
+use Rattle.js_names.specs.Mentions.{functions_of, owner_in, found, found_here, found_var, or_else, blocked, repeated, test_of, is_parameter}
 use Rattle.js_names.specs.Views.{scope_of, scopes_of, scopes_onto}
 
 scopes_onto-push : (below : List Scope) (xs : List Held) (x : Held) → scopes_onto below (xs ++ x ∷ []) ≡ scope_of x ∷ scopes_onto below xs
@@ -20,7 +20,7 @@ pub found_empty : (q : List ℕ) → found (scopes_of []) q ≡ None
 unfolding found scopes_onto
 found_empty q = refl
 
--- the scope below a place is the innermost of those up to it
+-- the scope below a mention is the innermost of those up to it
 pub scopes_down : (xs : List Held) (j : ℕ) (d x : Held) → 0 < j → j ≤ length xs → x ≡ get_or xs (j - 1) d → scopes_of (take j xs) ≡ scope_of x ∷ scopes_of (take (j - 1) xs)
 scopes_down xs j d x pos le e =
     let at : j ≡ (j - 1) + 1 = omega arith in
@@ -34,7 +34,7 @@ unfolding found
 found_down xs j q d x pos le e = ap (λ s. found s q) (scopes_down xs j d x pos le e)
 
 pub blocked_down : (xs : List Held) (j : ℕ) (q : List ℕ) (p : ℕ) (d x : Held) → 0 < j → j ≤ length xs → x ≡ get_or xs (j - 1) d
-    → blocked (scopes_of (take j xs)) q p ≡ (test_of ((scope_of x).own q) (λ d. nat_lt d.place p && not (is_parameter d.role)) || (not x.whole && blocked (scopes_of (take (j - 1) xs)) q p))
+    → blocked (scopes_of (take j xs)) q p ≡ (test_of ((scope_of x).own q) (λ d. nat_lt d.offset p && not (is_parameter d.role)) || (not x.whole && blocked (scopes_of (take (j - 1) xs)) q p))
 unfolding blocked
 blocked_down xs j q p d x pos le e = ap (λ s. blocked s q p) (scopes_down xs j d x pos le e)
 

@@ -15,7 +15,7 @@ use Rattle.std.specs.declared.alloc.Global.{Global}
 use Rattle.std.proofs.lemmas.List.{take_more, map-append}
 use Rattle.js_data.proofs.Shared.{none_of, flat_map_take, kept-append}
 use Rattle.js_tree.specs.declared.tree.Name.{Name}
-use Rattle.js_names.specs.declared.place.Declared.{Declared}
+use Rattle.js_names.specs.declared.mention.Declared.{Declared}
 use Rattle.js_tree.specs.declared.tree.Declarator.{Declarator}
 use Rattle.js_tree.specs.declared.tree.DeclareKind.{DeclareKind}
 use Rattle.js_tree.specs.declared.tree.Stmt.{Stmt}
@@ -25,7 +25,7 @@ use Rattle.js_tree.specs.Plain.{declarators_of, stmts_of}
 use Rattle.js_tree.specs.Views.{plain_declarator, plain_stmt, plain_start}
 use Rattle.js_names.specs.Entries.{Entry, own_declarators, var_declarators, own_of, own_of_all, vars_of, vars_of_all, own_of_start, vars_of_start}
 use Rattle.js_names.specs.Scopes.{first, named, one_var, merge, kept, parameter, parameters}
-use Rattle.js_names.specs.Places.{or_else}
+use Rattle.js_names.specs.Mentions.{or_else}
 use Rattle.js_tree.proofs.Statements.{with_form, declaration_is, block_is, if_else_is, for_is, start_is, if_is, while_is, for_of_is}
 use Rattle.js_tree.specs.declared.tree.Expr.{Expr}
 use Rattle.js_tree.specs.declared.tree.Start.{Start, Declares}

@@ -4,9 +4,9 @@ use Rattle.js_tree.specs.declared.tree.Name.{Name}
 use Rattle.js_tree.specs.declared.tree.DeclareKind.{DeclareKind}
 use Rattle.js_tree.specs.declared.tree.DeclareKind.TheVariants.{Const as const_word, Let as let_word, Var as var_word}
 use Rattle.js_tree.specs.Plain.{PlainPerhaps, absent, present, PlainDeclarators, no_declarators, declarator_in, PlainStart, nothing, declared, started, PlainStmt, on, PlainStmtForm, empty, block, declaration, expression, if_alone, if_else, while_of, for_three, for_of, break_of, continue_of, return_nothing, return_of, PlainStmts, no_stmts, stmt_in, PlainItem, statement, function_of}
-use Rattle.js_names.specs.declared.place.Role.{Role}
-use Rattle.js_names.specs.declared.place.Role.TheVariants.{Const, Let, Var, Function}
-use Rattle.js_names.specs.declared.place.Declared.{Declared}
+use Rattle.js_names.specs.declared.mention.Role.{Role}
+use Rattle.js_names.specs.declared.mention.Role.TheVariants.{Const, Let, Var, Function}
+use Rattle.js_names.specs.declared.mention.Declared.{Declared}
 use Rattle.js_names.specs.declared.scope.TheConstants.{TOP}
 
 -- a name with its declaration
@@ -14,7 +14,7 @@ pub record Entry : Type 0 where
   pub name : List ℕ
   pub declared : Declared
 
--- the place of the top level, as that of a function: a text is shorter, so no function begins there
+-- the offset of the top level, as that of a function: a text is shorter, so no function begins there
 abbrev pub top : ℕ
 top = TOP
 
@@ -23,7 +23,7 @@ entry name role end owner direct given = record {
   name = name.text;
   declared = record {
     role = role;
-    place = name.spot.at;
+    offset = name.spot.at;
     end = end;
     owner = owner;
     direct = direct;
@@ -35,7 +35,7 @@ abbrev pub is_present : PlainPerhaps → Bool
 is_present absent = false
 is_present (present e) = true
 
--- the place from which on the value of a `var` stays that names a parameter: after its declarator, or nowhere
+-- the offset from which on the value of a `var` stays that names a parameter: after its declarator, or nowhere
 -- where it may run again
 abbrev pub given_at : Bool → PlainPerhaps → ℕ → ℕ
 given_at direct absent end = 0

@@ -1,13 +1,14 @@
 -- What maps of sets take in: the variables of each function.
 use Rattle.std.specs.Prelude.{◌≡◌, ◌<◌, ℕ, List, [], Option, Some, None, length, nat_eq, fold, slice_index_or}
-use Rattle.js_names.specs.declared.place.Seen.{Seen}
+use Rattle.js_names.specs.declared.mention.Mention.{Mention as HeldMention}
 use Rattle.indexmap.specs.IndexMap.{IndexMap, get}
 use Rattle.indexmap.specs.IndexSet.{IndexSet}
-use Rattle.js_names.specs.Slots.{Holding, captures_in, joins, held_by}
+use Rattle.js_names.specs.declared.holdings.Own.{Own}
+use Rattle.js_names.specs.Slots.{Holding, captures_in, joins, held_by, parameter_in, variable_in, var_in}
 use Rattle.std.specs.declared.hash.FoldHasher.{FoldHasher}
 use Rattle.std.specs.declared.hash.BuildHasherDefault.{BuildHasherDefault}
-use Rattle.js_names.specs.Places.{Place}
-use Rattle.js_names.specs.Views.{place_of}
+use Rattle.js_names.specs.Mentions.{Mention}
+use Rattle.js_names.specs.Views.{mention_of}
 
 -- the sets that a map holds
 abbrev pub Sets : Type 0
@@ -25,11 +26,17 @@ held_in sets f = keys_of (get nat_eq sets f)
 abbrev pub Holds : Sets → Sets → List Holding → Type 0
 Holds old new hs = (f : ℕ) → held_in new f ≡ fold joins (held_in old f) (held_by f hs)
 
--- a place before makes the captures of this place
-abbrev pub IsMade : List ℕ → List Seen → Place → Type 0
+-- what a mention has a function hold of its own
+abbrev pub own_in : Own → List ℕ → Mention → List Holding
+own_in Own.Parameters assigned p = parameter_in p
+own_in Own.Variables assigned p = variable_in assigned p
+own_in Own.Vars assigned p = var_in assigned p
+
+-- a mention before makes the captures of this mention
+abbrev pub IsMade : List ℕ → List HeldMention → Mention → Type 0
 IsMade assigned before p =
     (at : ℕ)
-    × (x : Seen)
+    × (x : HeldMention)
     × (at < length before)
     × (x ≡ slice_index_or before at x)
-    × (captures_in assigned (place_of x) ≡ captures_in assigned p)
+    × (captures_in assigned (mention_of x) ≡ captures_in assigned p)

@@ -2,8 +2,8 @@ pub mod Entries
 pub mod Scopes
 pub mod Forms
 pub mod Spots
-pub mod Sites
-pub mod Places
+pub mod Unresolved
+pub mod Mentions
 pub mod Scoped
 pub mod Kept
 pub mod Slots

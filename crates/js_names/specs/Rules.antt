@@ -1,14 +1,14 @@
--- The rules of names: each is a test of a place. The answer is the least place at which one fails, and of the
--- rules that fail there the first one.
+-- The rules of names: each is a test of a mention. The answer is the mention with the least offset at which
+-- one fails, and of the rules that fail there the first one.
 use Rattle.std.specs.Prelude.{ℕ, Bool, true, false, not, ◌&&◌, ◌||◌, nat_eq, nat_lt, List, Option, Some, None, is_some, fold, if◌then◌else◌}
 use Rattle.js_tree.specs.Plain.{PlainItem}
 use Rattle.js_names.specs.declared.limits.TheConstants.{MOST_SLOTS}
-use Rattle.js_names.specs.declared.place.What.{What}
-use Rattle.js_names.specs.declared.place.NameFault.{NameFault}
-use Rattle.js_names.specs.declared.place.NameFault.TheVariants.{Unknown, Twice, AssignConst, Capture, LoopWord, ReturnPlace, Slots, Memory}
+use Rattle.js_names.specs.declared.mention.What.{What}
+use Rattle.js_names.specs.declared.mention.NameFault.{NameFault}
+use Rattle.js_names.specs.declared.mention.NameFault.TheVariants.{Unknown, Twice, AssignConst, Capture, LoopWord, ReturnPlace, Slots, Memory}
 use Rattle.js_names.specs.Entries.{top}
-use Rattle.js_names.specs.Places.{Place, test_of, is_const, is_function, places}
-use Rattle.js_names.specs.Slots.{is_assignment, is_mention, is_begin, assigned_in, is_outer, can_copy, slot_count}
+use Rattle.js_names.specs.Mentions.{Mention, test_of, is_const, is_function, mentions}
+use Rattle.js_names.specs.Slots.{is_assignment, is_use, is_begin, assigned_in, is_outer, can_copy, slot_count}
 
 abbrev pub is_misuse : What → Bool
 is_misuse What.Misuses = true
@@ -23,38 +23,38 @@ is_return What.Returns = true
 is_return _ = false
 
 -- a name that nothing declares, or a use of `bp` or `Math` that is not a form
-abbrev pub fails_unknown : Place → Bool
-fails_unknown p = is_misuse p.what || (is_mention p.what && not (is_some p.declared))
+abbrev pub fails_unknown : Mention → Bool
+fails_unknown p = is_misuse p.what || (is_use p.what && not (is_some p.declared))
 
 -- the later of two declarations that clash, or one of a name that can't be declared
-abbrev pub fails_twice : Place → Bool
+abbrev pub fails_twice : Mention → Bool
 fails_twice p = p.clashes
 
 -- an assignment to or an update of a `const` or a function declaration
-abbrev pub fails_const : Place → Bool
+abbrev pub fails_const : Mention → Bool
 fails_const p = is_assignment p.what && test_of p.declared (λ d. is_const d.role || is_function d.role)
 
 -- a variable of an outer function or of the top level, no constant, whose value can't be copied as the inner
 -- function begins
-abbrev pub fails_capture : List ℕ → Place → Bool
+abbrev pub fails_capture : List ℕ → Mention → Bool
 fails_capture assigned p =
-    is_mention p.what
+    is_use p.what
     && test_of p.declared (λ d. is_outer assigned p d && not (can_copy assigned d p.around.owner))
 
 -- `break` or `continue` outside a loop of its function
-abbrev pub fails_loop_word : Place → Bool
+abbrev pub fails_loop_word : Mention → Bool
 fails_loop_word p = is_loop_word p.what && not p.around.looped
 
 -- `return` at the top level
-abbrev pub fails_return : Place → Bool
+abbrev pub fails_return : Mention → Bool
 fails_return p = is_return p.what && nat_eq p.around.owner top
 
 -- more slots than a function may have
-abbrev pub fails_slots : (ℕ → ℕ) → Place → Bool
+abbrev pub fails_slots : (ℕ → ℕ) → Mention → Bool
 fails_slots count p = is_begin p.what && nat_lt MOST_SLOTS (count p.around.owner)
 
--- the first rule that a place breaks
-unfoldable pub fault_at : List ℕ → (ℕ → ℕ) → Place → Option NameFault
+-- the first rule that a mention breaks
+unfoldable pub fault_at : List ℕ → (ℕ → ℕ) → Mention → Option NameFault
 fault_at assigned count p =
     if fails_unknown p then Some (Unknown p.name)
     else (if fails_twice p then Some (Twice p.name)
@@ -94,13 +94,13 @@ sooner None g = g
 sooner (Some f) None = Some f
 sooner (Some f) (Some g) = if comes_before g f then Some g else Some f
 
--- the soonest fault of some places
-abbrev pub soonest : (Place → Option NameFault) → List Place → Option NameFault
+-- the soonest fault of some mentions
+abbrev pub soonest : (Mention → Option NameFault) → List Mention → Option NameFault
 soonest fault ps = fold (λ f p. sooner f (fault p)) None ps
 
--- the fault of a program: none exactly where no place breaks a rule
+-- the fault of a program: none exactly where no mention breaks a rule
 unfoldable pub name_fault : List PlainItem → Option NameFault
 name_fault items =
-    let ps = places items in
+    let ps = mentions items in
     let assigned = assigned_in ps in
     soonest (fault_at assigned (slot_count assigned ps)) ps

@@ -6,9 +6,9 @@ use Rattle.js_tree.specs.declared.tree.Name.{Name}
 use Rattle.js_tree.specs.declared.tree.DeclareKind.{DeclareKind}
 use Rattle.js_tree.specs.declared.tree.DeclareKind.TheVariants.{Const as const_word, Let as let_word, Var as var_word}
 use Rattle.js_tree.specs.Plain.{PlainStart, PlainStmt, PlainStmts, PlainItem}
-use Rattle.js_names.specs.declared.place.Role.{Role}
-use Rattle.js_names.specs.declared.place.Role.TheVariants.{Parameter, Const, Let}
-use Rattle.js_names.specs.declared.place.Declared.{Declared}
+use Rattle.js_names.specs.declared.mention.Role.{Role}
+use Rattle.js_names.specs.declared.mention.Role.TheVariants.{Parameter, Const, Let}
+use Rattle.js_names.specs.declared.mention.Declared.{Declared}
 use Rattle.js_names.specs.Entries.{Entry, top, entry, own_of_all, own_of_start, vars_of_start, vars_of, vars_of_all, own_of_item, vars_of_item}
 
 -- a scope: what its own names are, what the `var`s in it declare, whether it is a whole function's or the

@@ -11,10 +11,10 @@ use Rattle.std.specs.declared.hash.FoldHasher.{FoldHasher}
 use Rattle.std.specs.declared.hash.BuildHasherDefault.{BuildHasherDefault}
 use Rattle.std.specs.declared.alloc.Global.{Global}
 use Rattle.std.specs.Prelude.{String}
-use Rattle.js_names.specs.declared.place.Declared.{Declared}
+use Rattle.js_names.specs.declared.mention.Declared.{Declared}
 use Rattle.js_names.specs.Entries.{Entry, own_declarator, var_declarator, own_of, vars_of, own_of_item, vars_of_item}
 use Rattle.js_names.specs.Scopes.{first, named, one_var, merge, kept}
-use Rattle.js_names.specs.Places.{or_else}
+use Rattle.js_names.specs.Mentions.{or_else}
 
 abbrev pub Names : Type 0
 Names = IndexMap (String Global) Declared (BuildHasherDefault FoldHasher)

@@ -1,11 +1,11 @@
--- Scopes and places, as the rules see what the walk over a tree holds.
+-- Scopes and mentions, as the rules see what the walk over a tree holds.
 use Rattle.std.specs.Prelude.{List, [], ◌∷◌}
 use Rattle.std.specs.HashMap.{get_by_text}
 use Rattle.std.specs.Arc.{arc_value}
 use Rattle.js_names.specs.declared.scope.Scope.{Scope as Held}
-use Rattle.js_names.specs.declared.place.Seen.{Seen}
+use Rattle.js_names.specs.declared.mention.Mention.{Mention as HeldMention}
 use Rattle.js_names.specs.Scopes.{Scope}
-use Rattle.js_names.specs.Places.{Place}
+use Rattle.js_names.specs.Mentions.{Mention}
 
 abbrev pub scope_of : Held → Scope
 scope_of s = record {
@@ -23,8 +23,8 @@ scopes_onto below (s ∷ ss) = scopes_onto (scope_of s ∷ below) ss
 abbrev pub scopes_of : List Held → List Scope
 scopes_of ss = scopes_onto [] ss
 
-abbrev pub place_of : Seen → Place
-place_of p = record {
+abbrev pub mention_of : HeldMention → Mention
+mention_of p = record {
   what = p.what;
   name = p.name;
   around = p.around;

@@ -4,7 +4,7 @@ ghost use Rattle.js_tree.specs.declared.tree.Name.{Name};
 ghost use Rattle.js_names.specs.Rules.{number_of, comes_before, sooner};
 ghost use Rattle.js_names.specs.inner.Breaches.{fault_of, fault_in};
 
-use crate::place::{NameFault, Seen, copy_of};
+use crate::mention::{Mention, NameFault, copy_of};
 use std::alloc::AllocError;
 
 /// A rule of names.
@@ -20,7 +20,7 @@ pub enum Breach {
 }
 
 impl Breach {
-    /// The number of the rule, which decides where two are broken at one place.
+    /// The number of the rule, which decides where two are broken at one offset.
     fn number(self) -> u8
         ensures { (name : Name) → result ≡ number_of (fault_of self name) }
     {
@@ -36,20 +36,20 @@ impl Breach {
     }
 }
 
-/// A place that breaks a rule.
+/// A mention that breaks a rule.
 #[derive(Clone, Copy)]
 pub struct Found<'a> {
     pub breach: Breach,
-    pub place: &'a Seen,
+    pub mention: &'a Mention,
 }
 
 /// Whether a breach is told rather than another.
 #[tactic(auto, using(crate::proofs::Firsts::spot_of_fault))]
 fn comes_before(found: Found, other: Found) -> bool
-    ensures { result ≡ comes_before (fault_of found.entry.breach found.entry.place.now.name)
-        (fault_of other.entry.breach other.entry.place.now.name) }
+    ensures { result ≡ comes_before (fault_of found.entry.breach found.entry.mention.now.name)
+        (fault_of other.entry.breach other.entry.mention.now.name) }
 {
-    let (at, other_at) = (found.place.name.spot.at, other.place.name.spot.at);
+    let (at, other_at) = (found.mention.name.spot.at, other.mention.name.spot.at);
     at < other_at || at == other_at && found.breach.number() < other.breach.number()
 }
 
@@ -68,11 +68,11 @@ pub fn sooner<'a>(first: Option<Found<'a>>, found: Option<Found<'a>>) -> Option<
     }
 }
 
-/// The fault of a place that breaks a rule.
+/// The fault of a mention that breaks a rule.
 pub fn fault_of(found: Found) -> Result<NameFault, AllocError>
-    ensures { IfOk result (λ f. f ≡ fault_of found.entry.breach found.entry.place.now.name) }
+    ensures { IfOk result (λ f. f ≡ fault_of found.entry.breach found.entry.mention.now.name) }
 {
-    let name = copy_of(&found.place.name)?;
+    let name = copy_of(&found.mention.name)?;
     Ok(match found.breach {
         Breach::Unknown => NameFault::Unknown(name),
         Breach::Twice => NameFault::Twice(name),

@@ -7,7 +7,7 @@ ghost use Rattle.js_names.specs.Scopes.{merge};
 ghost use Rattle.js_tree.specs.Views.{plain_declarator, plain_start};
 ghost use Rattle.js_names.specs.Taken.{TakesOwn, TakesVars, keeps, alone, own_of_declarator, vars_of_declarator, own_of_stmt, vars_of_stmt};
 
-use crate::place::{Declared, Role};
+use crate::mention::{Declared, Role};
 use crate::scope::TOP;
 use indexmap::IndexMap;
 use js_tree::{Declarator, DeclareKind, Name, Start, Stmt, StmtForm};
@@ -48,7 +48,7 @@ fn declare_own_declarator(
     };
     let declared = Declared {
         role,
-        place: declarator.name.spot.at,
+        offset: declarator.name.spot.at,
         end: declarator.end,
         owner,
         direct,
@@ -155,7 +155,7 @@ pub fn declare_var(
     Ok(())
 }
 
-/// The place from which on the value of a `var` stays that names a parameter: a nested one may run again.
+/// The offset from which on the value of a `var` stays that names a parameter: a nested one may run again.
 fn given_at(direct: bool, declarator: &Declarator) -> u32
     ensures { result ≡ given_at direct (plain_declarator declarator.now).value
         (plain_declarator declarator.now).end }
@@ -184,7 +184,7 @@ fn declare_var_declarator(
     }
     let declared = Declared {
         role: Role::Var,
-        place: declarator.name.spot.at,
+        offset: declarator.name.spot.at,
         end: declarator.end,
         owner,
         direct,

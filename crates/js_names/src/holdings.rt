@@ -3,13 +3,23 @@ ghost use Rattle.std.specs.Prelude.{◌≡◌, ◌∷◌, [], ◌++◌, false, I
 ghost use Rattle.std.specs.List.{flat_map};
 ghost use Rattle.indexmap.specs.IndexMap.{get};
 ghost use Rattle.js_names.specs.Slots.{hold, holds_all, copies, inside, slots_of, captures, captures_in, parameter_in, variable_in, var_in, vars_of};
-ghost use Rattle.js_names.specs.Views.{place_of};
-ghost use Rattle.js_names.specs.Held.{Holds, IsMade, held_in};
+ghost use Rattle.js_names.specs.Views.{mention_of};
+ghost use Rattle.js_names.specs.Held.{Holds, IsMade, held_in, own_in};
 
-use crate::place::{Declared, Role, Seen, What};
+use crate::mention::{Declared, Mention, Role, What};
 use crate::rules::{can_copy, is_constant, is_outer, variable_at};
 use indexmap::{IndexMap, IndexSet};
 use std::alloc::{AllocError, Global};
+
+/// What functions hold of their own, which is all but captures.
+#[derive(Clone, Copy)]
+enum Own {
+    Parameters,
+    /// The variables that are not parameters and no constants.
+    Variables,
+    /// Those of them that are `var`s.
+    Vars,
+}
 
 /// How many variables a function holds.
 pub fn slot_count(held: &IndexMap<u32, IndexSet<u32>>, function: u32) -> usize
@@ -52,13 +62,13 @@ fn hold(
 fn hold_parameter(
     alloc: Global,
     held: &mut IndexMap<u32, IndexSet<u32>>,
-    place: &Seen,
+    mention: &Mention,
 ) -> Result<(), AllocError>
-    ensures { OnOk result (Holds held.old held.new (parameter_in (place_of place.now))) }
+    ensures { OnOk result (Holds held.old held.new (parameter_in (mention_of mention.now))) }
 {
-    match place.what {
+    match mention.what {
         What::Declares(Role::Parameter) => {
-            hold(alloc, held, place.around.owner, place.name.spot.at)
+            hold(alloc, held, mention.around.owner, mention.name.spot.at)
         }
         _ => Ok(()),
     }
@@ -72,93 +82,94 @@ fn hold_inside(
     declared: Declared,
 ) -> Result<(), AllocError>
     ensures { OnOk result (Holds held.old held.new
-        (holds_all declared.place (inside declared.owner functions.now))) }
+        (holds_all declared.offset (inside declared.owner functions.now))) }
 {
     for function in functions {
         if *function == declared.owner {
             return Ok(());
         }
-        hold(alloc, held, *function, declared.place)?;
+        hold(alloc, held, *function, declared.offset)?;
     }
     Ok(())
 }
 
-/// Whether a place makes functions copy the variable that it mentions.
-fn copies(assigned: &IndexSet<u32>, place: &Seen, declared: Declared) -> bool
-    ensures { result ≡ copies assigned.now.keys (place_of place.now) declared }
+/// Whether a mention makes functions copy the variable that it uses.
+fn copies(assigned: &IndexSet<u32>, mention: &Mention, declared: Declared) -> bool
+    ensures { result ≡ copies assigned.now.keys (mention_of mention.now) declared }
 {
-    match place.what {
+    match mention.what {
         What::Reads | What::Assigns => {
-            is_outer(assigned, place, declared) && can_copy(assigned, declared, place.around.owner)
+            is_outer(assigned, mention, declared)
+                && can_copy(assigned, declared, mention.around.owner)
         }
         _ => false,
     }
 }
 
-/// The captures that a place makes.
+/// The captures that a mention makes.
 fn hold_captures(
     alloc: Global,
     held: &mut IndexMap<u32, IndexSet<u32>>,
     assigned: &IndexSet<u32>,
-    place: &Seen,
+    mention: &Mention,
 ) -> Result<(), AllocError>
     ensures { OnOk result (Holds held.old held.new
-        (captures_in assigned.now.keys (place_of place.now))) }
+        (captures_in assigned.now.keys (mention_of mention.now))) }
 {
-    match place.declared {
-        Some(declared) if copies(assigned, place, declared) => {
-            hold_inside(alloc, held, place.functions.as_slice(), declared)
+    match mention.declared {
+        Some(declared) if copies(assigned, mention, declared) => {
+            hold_inside(alloc, held, mention.functions.as_slice(), declared)
         }
         _ => Ok(()),
     }
 }
 
-/// Whether a place makes the captures of this variable into these functions.
-fn makes(assigned: &IndexSet<u32>, place: &Seen, declared: Declared, functions: &[u32]) -> bool
-    ensures { IsTrue result → captures_in assigned.now.keys (place_of place.now)
-        ≡ holds_all declared.place (inside declared.owner functions.now) }
+/// Whether a mention makes the captures of this variable into these functions.
+fn makes(assigned: &IndexSet<u32>, mention: &Mention, declared: Declared, functions: &[u32]) -> bool
+    ensures { IsTrue result → captures_in assigned.now.keys (mention_of mention.now)
+        ≡ holds_all declared.offset (inside declared.owner functions.now) }
 {
-    match place.declared {
+    match mention.declared {
         Some(other) => {
-            other.place == declared.place
+            other.offset == declared.offset
                 && other.owner == declared.owner
-                && copies(assigned, place, other)
-                && place.functions.as_slice() == functions
+                && copies(assigned, mention, other)
+                && mention.functions.as_slice() == functions
         }
         None => false,
     }
 }
 
-/// Whether a place before this one is known that makes the same captures.
+/// Whether a mention before this one is known that makes the same captures.
 fn is_made(
     assigned: &IndexSet<u32>,
     known: &IndexMap<(u32, u32), usize>,
-    before: &[Seen],
-    place: &Seen,
+    before: &[Mention],
+    mention: &Mention,
 ) -> bool
-    ensures { IsTrue result → IsMade assigned.now.keys before.now (place_of place.now) }
+    ensures { IsTrue result → IsMade assigned.now.keys before.now (mention_of mention.now) }
 {
-    if let Some(declared) = place.declared
-        && copies(assigned, place, declared)
-        && let Some(at) = known.get(&(place.around.owner, declared.place))
+    if let Some(declared) = mention.declared
+        && copies(assigned, mention, declared)
+        && let Some(at) = known.get(&(mention.around.owner, declared.offset))
         && let Some(earlier) = before.get(*at)
     {
-        return makes(assigned, earlier, declared, place.functions.as_slice());
+        return makes(assigned, earlier, declared, mention.functions.as_slice());
     }
     false
 }
 
-/// Notes the place as one that makes captures. How fast later places are passed over is all that hangs on it.
+/// Notes the mention as one that makes captures. How fast later mentions are passed over is all that hangs on it.
 fn note_captures(
     known: &mut IndexMap<(u32, u32), usize>,
     assigned: &IndexSet<u32>,
-    place: &Seen,
+    mention: &Mention,
     at: usize,
 ) -> Result<(), AllocError> {
-    if let Some(declared) = place.declared
-        && copies(assigned, place, declared)
+    if let Some(declared) = mention.declared
+        && copies(assigned, mention, declared)
     {
-        known.insert((place.around.owner, declared.place), at)?;
+        known.insert((mention.around.owner, declared.offset), at)?;
     }
     Ok(())
 }
@@ -168,67 +179,89 @@ fn hold_variable(
     alloc: Global,
     held: &mut IndexMap<u32, IndexSet<u32>>,
     assigned: &IndexSet<u32>,
-    place: &Seen,
+    mention: &Mention,
 ) -> Result<(), AllocError>
     ensures { OnOk result (Holds held.old held.new
-        (variable_in assigned.now.keys (place_of place.now))) }
+        (variable_in assigned.now.keys (mention_of mention.now))) }
 {
-    match variable_at(place) {
+    match variable_at(mention) {
         Some(declared) if !is_constant(assigned, declared) => {
-            hold(alloc, held, declared.owner, declared.place)
+            hold(alloc, held, declared.owner, declared.offset)
         }
         _ => Ok(()),
     }
 }
 
-/// The parameters of all functions.
-fn hold_parameters(
+/// A `var` that is not a parameter and no constant.
+fn hold_var(
     alloc: Global,
     held: &mut IndexMap<u32, IndexSet<u32>>,
-    places: &[Seen],
+    assigned: &IndexSet<u32>,
+    mention: &Mention,
 ) -> Result<(), AllocError>
     ensures { OnOk result (Holds held.old held.new
-        (flat_map (λ p. parameter_in (place_of p)) places.now)) }
+        (var_in assigned.now.keys (mention_of mention.now))) }
 {
-    for place in places {
-        hold_parameter(alloc, held, place)?;
+    match variable_at(mention) {
+        Some(declared) if declared.role == Role::Var && !is_constant(assigned, declared) => {
+            hold(alloc, held, declared.owner, declared.offset)
+        }
+        _ => Ok(()),
+    }
+}
+
+/// One more variable that a function holds of its own, where this mention declares one.
+fn hold_own(
+    alloc: Global,
+    held: &mut IndexMap<u32, IndexSet<u32>>,
+    assigned: &IndexSet<u32>,
+    own: Own,
+    mention: &Mention,
+) -> Result<(), AllocError>
+    ensures { OnOk result (Holds held.old held.new
+        (own_in own assigned.now.keys (mention_of mention.now))) }
+{
+    match own {
+        Own::Parameters => hold_parameter(alloc, held, mention),
+        Own::Variables => hold_variable(alloc, held, assigned, mention),
+        Own::Vars => hold_var(alloc, held, assigned, mention),
+    }
+}
+
+/// What all functions hold of their own.
+fn hold_each_own(
+    alloc: Global,
+    held: &mut IndexMap<u32, IndexSet<u32>>,
+    assigned: &IndexSet<u32>,
+    own: Own,
+    mentions: &[Mention],
+) -> Result<(), AllocError>
+    ensures { OnOk result (Holds held.old held.new
+        (flat_map (λ p. own_in own assigned.now.keys (mention_of p)) mentions.now)) }
+{
+    for mention in mentions {
+        hold_own(alloc, held, assigned, own, mention)?;
     }
     Ok(())
 }
 
-/// The captures of all functions. Those that a place before made are not held once more: a function that mentions a
+/// The captures of all functions. Those that a mention before made are not held once more: a function that uses a
 /// variable a thousand times, far inside that of the variable, walks over the functions between them once.
 fn hold_all_captures(
     alloc: Global,
     held: &mut IndexMap<u32, IndexSet<u32>>,
     assigned: &IndexSet<u32>,
-    places: &[Seen],
+    mentions: &[Mention],
 ) -> Result<(), AllocError>
     ensures { OnOk result (Holds held.old held.new
-        (flat_map (λ p. captures_in assigned.now.keys (place_of p)) places.now)) }
+        (flat_map (λ p. captures_in assigned.now.keys (mention_of p)) mentions.now)) }
 {
     let mut known = IndexMap::new(alloc);
-    for (at, place) in places.iter().enumerate() {
-        if !is_made(assigned, &known, &places[..at], place) {
-            hold_captures(alloc, held, assigned, place)?;
-            note_captures(&mut known, assigned, place, at)?;
+    for (at, mention) in mentions.iter().enumerate() {
+        if !is_made(assigned, &known, &mentions[..at], mention) {
+            hold_captures(alloc, held, assigned, mention)?;
+            note_captures(&mut known, assigned, mention, at)?;
         }
-    }
-    Ok(())
-}
-
-/// The other variables of all functions.
-fn hold_variables(
-    alloc: Global,
-    held: &mut IndexMap<u32, IndexSet<u32>>,
-    assigned: &IndexSet<u32>,
-    places: &[Seen],
-) -> Result<(), AllocError>
-    ensures { OnOk result (Holds held.old held.new
-        (flat_map (λ p. variable_in assigned.now.keys (place_of p)) places.now)) }
-{
-    for place in places {
-        hold_variable(alloc, held, assigned, place)?;
     }
     Ok(())
 }
@@ -238,16 +271,16 @@ fn hold_all(
     alloc: Global,
     held: &mut IndexMap<u32, IndexSet<u32>>,
     assigned: &IndexSet<u32>,
-    places: &[Seen],
+    mentions: &[Mention],
 ) -> Result<(), AllocError>
     ensures { OnOk result (Holds held.old held.new
-        (flat_map (λ p. parameter_in (place_of p)) places.now
-        ++ (flat_map (λ p. captures_in assigned.now.keys (place_of p)) places.now ++ flat_map
-        (λ p. variable_in assigned.now.keys (place_of p)) places.now))) }
+        (flat_map (λ p. parameter_in (mention_of p)) mentions.now
+        ++ (flat_map (λ p. captures_in assigned.now.keys (mention_of p)) mentions.now ++ flat_map
+        (λ p. variable_in assigned.now.keys (mention_of p)) mentions.now))) }
 {
-    hold_parameters(alloc, held, places)?;
-    hold_all_captures(alloc, held, assigned, places)?;
-    hold_variables(alloc, held, assigned, places)?;
+    hold_each_own(alloc, held, assigned, Own::Parameters, mentions)?;
+    hold_all_captures(alloc, held, assigned, mentions)?;
+    hold_each_own(alloc, held, assigned, Own::Variables, mentions)?;
     Ok(())
 }
 
@@ -255,13 +288,13 @@ fn hold_all(
 pub fn slots(
     alloc: Global,
     assigned: &IndexSet<u32>,
-    places: &[Seen],
+    mentions: &[Mention],
 ) -> Result<IndexMap<u32, IndexSet<u32>>, AllocError>
     ensures { IfOk result (λ m. (f : _) → held_in m f ≡ slots_of assigned.now.keys f
-        (map place_of places.now)) }
+        (map mention_of mentions.now)) }
 {
     let mut held = IndexMap::new(alloc);
-    hold_all(alloc, &mut held, assigned, places)?;
+    hold_all(alloc, &mut held, assigned, mentions)?;
     Ok(held)
 }
 
@@ -269,60 +302,26 @@ pub fn slots(
 pub fn captured(
     alloc: Global,
     assigned: &IndexSet<u32>,
-    places: &[Seen],
+    mentions: &[Mention],
 ) -> Result<IndexMap<u32, IndexSet<u32>>, AllocError>
     ensures { IfOk result (λ m. (f : _) → held_in m f ≡ captures assigned.now.keys f
-        (map place_of places.now)) }
+        (map mention_of mentions.now)) }
 {
     let mut held = IndexMap::new(alloc);
-    hold_all_captures(alloc, &mut held, assigned, places)?;
+    hold_all_captures(alloc, &mut held, assigned, mentions)?;
     Ok(held)
-}
-
-/// A `var` that is not a parameter and no constant.
-fn hold_var(
-    alloc: Global,
-    held: &mut IndexMap<u32, IndexSet<u32>>,
-    assigned: &IndexSet<u32>,
-    place: &Seen,
-) -> Result<(), AllocError>
-    ensures { OnOk result (Holds held.old held.new
-        (var_in assigned.now.keys (place_of place.now))) }
-{
-    match variable_at(place) {
-        Some(declared) if declared.role == Role::Var && !is_constant(assigned, declared) => {
-            hold(alloc, held, declared.owner, declared.place)
-        }
-        _ => Ok(()),
-    }
-}
-
-/// The `var`s of all functions.
-fn hold_vars(
-    alloc: Global,
-    held: &mut IndexMap<u32, IndexSet<u32>>,
-    assigned: &IndexSet<u32>,
-    places: &[Seen],
-) -> Result<(), AllocError>
-    ensures { OnOk result (Holds held.old held.new
-        (flat_map (λ p. var_in assigned.now.keys (place_of p)) places.now)) }
-{
-    for place in places {
-        hold_var(alloc, held, assigned, place)?;
-    }
-    Ok(())
 }
 
 /// The `var`s of each function that are not constants, in the order of their first declarations.
 pub fn vars(
     alloc: Global,
     assigned: &IndexSet<u32>,
-    places: &[Seen],
+    mentions: &[Mention],
 ) -> Result<IndexMap<u32, IndexSet<u32>>, AllocError>
     ensures { IfOk result (λ m. (f : _) → held_in m f ≡ vars_of assigned.now.keys f
-        (map place_of places.now)) }
+        (map mention_of mentions.now)) }
 {
     let mut held = IndexMap::new(alloc);
-    hold_vars(alloc, &mut held, assigned, places)?;
+    hold_each_own(alloc, &mut held, assigned, Own::Vars, mentions)?;
     Ok(held)
 }

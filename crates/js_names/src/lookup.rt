@@ -1,10 +1,10 @@
-//! Look-ups of names in the scopes around a place, whose innermost is the last.
+//! Look-ups of names in the scopes around a mention, whose innermost is the last.
 ghost use Rattle.std.specs.Prelude.{◌≡◌, ◌∷◌, [], nat_lt, ◌&&◌, not};
-ghost use Rattle.js_names.specs.Places.{earlier, found, found_here, found_var, blocked, repeated, is_parameter, test_of, clashes, declared_at};
+ghost use Rattle.js_names.specs.Mentions.{earlier, found, found_here, found_var, blocked, repeated, is_parameter, test_of, clashes, declared_at};
 ghost use Rattle.js_names.specs.Views.{scope_of, scopes_of};
 
 use crate::forms::is_reserved;
-use crate::place::{Declared, Role, What};
+use crate::mention::{Declared, Role, What};
 use crate::scope::Scope;
 use js_tree::Name;
 
@@ -13,7 +13,7 @@ fn earlier(own: Option<Declared>, var: Option<Declared>) -> Option<Declared>
     ensures { result ≡ earlier own var }
 {
     match (own, var) {
-        (Some(own), Some(var)) => Some(if var.place < own.place { var } else { own }),
+        (Some(own), Some(var)) => Some(if var.offset < own.offset { var } else { own }),
         (Some(own), None) => Some(own),
         (None, var) => var,
     }
@@ -60,26 +60,26 @@ fn found_var(scopes: &[Scope], name: &str) -> Option<Declared>
     None
 }
 
-/// Whether an own name of the scope stands before the place, and is not a parameter.
-fn clashes_here(scope: &Scope, name: &str, place: u32) -> bool
+/// Whether an own name of the scope stands before the offset, and is not a parameter.
+fn clashes_here(scope: &Scope, name: &str, offset: u32) -> bool
     ensures { result ≡ test_of ((scope_of scope.now).own name.now)
-        (λ d. nat_lt d.place place && not (is_parameter d.role)) }
+        (λ d. nat_lt d.offset offset && not (is_parameter d.role)) }
 {
     match scope.own.get(name) {
-        Some(declared) => declared.place < place && declared.role != Role::Parameter,
+        Some(declared) => declared.offset < offset && declared.role != Role::Parameter,
         None => false,
     }
 }
 
 /// Whether a `var` clashes with an earlier name in the scopes up to its function.
-fn blocked(scopes: &[Scope], name: &str, place: u32) -> bool
-    ensures { result ≡ blocked (scopes_of scopes.now) name.now place }
+fn blocked(scopes: &[Scope], name: &str, offset: u32) -> bool
+    ensures { result ≡ blocked (scopes_of scopes.now) name.now offset }
 {
     let mut i = scopes.len();
     while i > 0 {
         i -= 1;
         let scope = &scopes[i];
-        if clashes_here(scope, name, place) {
+        if clashes_here(scope, name, offset) {
             return true;
         }
         if scope.whole {
@@ -89,29 +89,29 @@ fn blocked(scopes: &[Scope], name: &str, place: u32) -> bool
     false
 }
 
-/// Whether a scope declares the name before the place.
-#[tactic(auto, unfolding(crate::specs::Places::repeated))]
-fn repeated_here(scope: &Scope, name: &str, place: u32) -> bool
-    ensures { result ≡ repeated (scope_of scope.now ∷ []) name.now place }
+/// Whether a scope declares the name before the offset.
+#[tactic(auto, unfolding(crate::specs::Mentions::repeated))]
+fn repeated_here(scope: &Scope, name: &str, offset: u32) -> bool
+    ensures { result ≡ repeated (scope_of scope.now ∷ []) name.now offset }
 {
     if let Some(declared) = scope.own.get(name)
-        && declared.place < place
+        && declared.offset < offset
     {
         return true;
     }
     match scope.vars.get(name) {
-        Some(declared) => declared.place < place,
+        Some(declared) => declared.offset < offset,
         None => false,
     }
 }
 
-/// Whether the innermost scope declares the name before the place.
-fn repeated(scopes: &[Scope], name: &str, place: u32) -> bool
-    ensures { result ≡ repeated (scopes_of scopes.now) name.now place }
+/// Whether the innermost scope declares the name before the offset.
+fn repeated(scopes: &[Scope], name: &str, offset: u32) -> bool
+    ensures { result ≡ repeated (scopes_of scopes.now) name.now offset }
 {
     match scopes {
         [] => false,
-        [.., scope] => repeated_here(scope, name, place),
+        [.., scope] => repeated_here(scope, name, offset),
     }
 }
 

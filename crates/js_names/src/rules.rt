@@ -1,34 +1,34 @@
-//! The rules of names, each a test of a place.
+//! The rules of names, each a test of a mention.
 ghost use Rattle.std.specs.Prelude.{◌≡◌, IfOk, map, length};
 ghost use Rattle.js_names.specs.Slots.{assigned_in, assigned_at, is_constant, can_copy, is_outer, variable_at};
 ghost use Rattle.js_names.specs.Rules.{fails_unknown, fails_const, fails_capture, fails_loop_word, fails_return, fails_slots};
-ghost use Rattle.js_names.specs.Views.{place_of};
+ghost use Rattle.js_names.specs.Views.{mention_of};
 ghost use Rattle.js_names.specs.Held.{held_in};
 
 use crate::holdings::slot_count;
 use crate::limits::MOST_SLOTS;
-use crate::place::{Declared, Role, Seen, What};
+use crate::mention::{Declared, Mention, Role, What};
 use crate::scope::TOP;
 use indexmap::{IndexMap, IndexSet};
 use std::alloc::{AllocError, Global};
 
 /// A name that nothing declares, or a use of `bp` or `Math` that is not a form.
-pub fn fails_unknown(place: &Seen) -> bool
-    ensures { result ≡ fails_unknown (place_of place.now) }
+pub fn fails_unknown(mention: &Mention) -> bool
+    ensures { result ≡ fails_unknown (mention_of mention.now) }
 {
-    match place.what {
+    match mention.what {
         What::Misuses => true,
-        What::Reads | What::Assigns => place.declared.is_none(),
+        What::Reads | What::Assigns => mention.declared.is_none(),
         What::Declares(_) | What::LoopWord | What::Returns | What::Begins => false,
     }
 }
 
 /// An assignment to or an update of a `const` or a function declaration.
-pub fn fails_const(place: &Seen) -> bool
-    ensures { result ≡ fails_const (place_of place.now) }
+pub fn fails_const(mention: &Mention) -> bool
+    ensures { result ≡ fails_const (mention_of mention.now) }
 {
-    if let What::Assigns = place.what
-        && let Some(declared) = place.declared
+    if let What::Assigns = mention.what
+        && let Some(declared) = mention.declared
     {
         return declared.role == Role::Const || declared.role == Role::Function;
     }
@@ -40,31 +40,31 @@ pub fn is_constant(assigned: &IndexSet<u32>, declared: Declared) -> bool
     ensures { result ≡ is_constant assigned.now.keys declared }
 {
     declared.role == Role::Function
-        || declared.owner == TOP && declared.direct && !assigned.contains(&declared.place)
+        || declared.owner == TOP && declared.direct && !assigned.contains(&declared.offset)
 }
 
-/// Whether a variable's value can be copied into a function that begins at the place.
+/// Whether a variable's value can be copied into a function that begins at the offset.
 pub fn can_copy(assigned: &IndexSet<u32>, declared: Declared, begins: u32) -> bool
     ensures { result ≡ can_copy assigned.now.keys declared begins }
 {
     (declared.role != Role::Var || declared.direct)
-        && !assigned.contains(&declared.place)
+        && !assigned.contains(&declared.offset)
         && declared.end <= begins
 }
 
 /// Whether a variable belongs to an outer function or to the top level, and is not a constant.
-pub fn is_outer(assigned: &IndexSet<u32>, place: &Seen, declared: Declared) -> bool
-    ensures { result ≡ is_outer assigned.now.keys (place_of place.now) declared }
+pub fn is_outer(assigned: &IndexSet<u32>, mention: &Mention, declared: Declared) -> bool
+    ensures { result ≡ is_outer assigned.now.keys (mention_of mention.now) declared }
 {
-    declared.owner != place.around.owner && !is_constant(assigned, declared)
+    declared.owner != mention.around.owner && !is_constant(assigned, declared)
 }
 
-/// The variable that a place declares: a `var` may name a parameter, and then it declares none.
-pub fn variable_at(place: &Seen) -> Option<Declared>
-    ensures { result ≡ variable_at place.now.what place.now.declared }
+/// The variable that a mention declares: a `var` may name a parameter, and then it declares none.
+pub fn variable_at(mention: &Mention) -> Option<Declared>
+    ensures { result ≡ variable_at mention.now.what mention.now.declared }
 {
-    if let What::Declares(_) = place.what
-        && let Some(declared) = place.declared
+    if let What::Declares(_) = mention.what
+        && let Some(declared) = mention.declared
         && declared.role != Role::Parameter
     {
         return Some(declared);
@@ -74,15 +74,15 @@ pub fn variable_at(place: &Seen) -> Option<Declared>
 
 /// A variable of an outer function or of the top level, no constant, whose value can't be copied as the
 /// inner function begins.
-pub fn fails_capture(assigned: &IndexSet<u32>, place: &Seen) -> bool
-    ensures { result ≡ fails_capture assigned.now.keys (place_of place.now) }
+pub fn fails_capture(assigned: &IndexSet<u32>, mention: &Mention) -> bool
+    ensures { result ≡ fails_capture assigned.now.keys (mention_of mention.now) }
 {
-    match place.what {
-        What::Reads | What::Assigns => match place.declared {
+    match mention.what {
+        What::Reads | What::Assigns => match mention.declared {
             None => false,
             Some(declared) => {
-                is_outer(assigned, place, declared)
-                    && !can_copy(assigned, declared, place.around.owner)
+                is_outer(assigned, mention, declared)
+                    && !can_copy(assigned, declared, mention.around.owner)
             }
         },
         What::Misuses | What::Declares(_) | What::LoopWord | What::Returns | What::Begins => false,
@@ -90,53 +90,53 @@ pub fn fails_capture(assigned: &IndexSet<u32>, place: &Seen) -> bool
 }
 
 /// `break` or `continue` outside a loop of its function.
-pub fn fails_loop_word(place: &Seen) -> bool
-    ensures { result ≡ fails_loop_word (place_of place.now) }
+pub fn fails_loop_word(mention: &Mention) -> bool
+    ensures { result ≡ fails_loop_word (mention_of mention.now) }
 {
-    match place.what {
-        What::LoopWord => !place.around.looped,
+    match mention.what {
+        What::LoopWord => !mention.around.looped,
         _ => false,
     }
 }
 
 /// `return` at the top level.
-pub fn fails_return(place: &Seen) -> bool
-    ensures { result ≡ fails_return (place_of place.now) }
+pub fn fails_return(mention: &Mention) -> bool
+    ensures { result ≡ fails_return (mention_of mention.now) }
 {
-    match place.what {
-        What::Returns => place.around.owner == TOP,
+    match mention.what {
+        What::Returns => mention.around.owner == TOP,
         _ => false,
     }
 }
 
 /// More slots than a function may have.
-pub fn fails_slots(held: &IndexMap<u32, IndexSet<u32>>, place: &Seen) -> bool
-    ensures { result ≡ fails_slots (λ f. length (held_in held.now f)) (place_of place.now) }
+pub fn fails_slots(held: &IndexMap<u32, IndexSet<u32>>, mention: &Mention) -> bool
+    ensures { result ≡ fails_slots (λ f. length (held_in held.now f)) (mention_of mention.now) }
 {
-    match place.what {
-        What::Begins => slot_count(held, place.around.owner) > MOST_SLOTS,
+    match mention.what {
+        What::Begins => slot_count(held, mention.around.owner) > MOST_SLOTS,
         _ => false,
     }
 }
 
-/// The variable that a place assigns or updates.
-fn assigned_at(place: &Seen) -> Option<u32>
-    ensures { result ≡ assigned_at (place_of place.now) }
+/// The variable that a mention assigns or updates.
+fn assigned_at(mention: &Mention) -> Option<u32>
+    ensures { result ≡ assigned_at (mention_of mention.now) }
 {
-    match place.what {
-        What::Assigns => place.declared.map(|declared| declared.place),
+    match mention.what {
+        What::Assigns => mention.declared.map(|declared| declared.offset),
         _ => None,
     }
 }
 
-/// The variables that some place assigns or updates, by the places of their declarations.
+/// The variables that some mention assigns or updates, by the offsets of their declared names.
 #[tactic(auto, unfolding(crate::specs::Slots::assigned_in))]
-pub fn assigned_in(alloc: Global, places: &[Seen]) -> Result<IndexSet<u32>, AllocError>
-    ensures { IfOk result (λ s. s.keys ≡ assigned_in (map place_of places.now)) }
+pub fn assigned_in(alloc: Global, mentions: &[Mention]) -> Result<IndexSet<u32>, AllocError>
+    ensures { IfOk result (λ s. s.keys ≡ assigned_in (map mention_of mentions.now)) }
 {
     let mut assigned = IndexSet::new(alloc);
-    for place in places {
-        if let Some(variable) = assigned_at(place) {
+    for mention in mentions {
+        if let Some(variable) = assigned_at(mention) {
             assigned.insert(variable)?;
         }
     }

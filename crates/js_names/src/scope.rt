@@ -1,11 +1,11 @@
 //! Scopes, as the walk over a tree holds them.
 ghost use Rattle.std.specs.Prelude.{◌≡◌};
 
-use crate::place::{Declared, Seen};
+use crate::mention::{Declared, Mention};
 use indexmap::IndexMap;
 use std::alloc::Global;
 
-/// The place of the top level, as that of a function: no function begins there.
+/// The offset of the top level, as that of a function: no function begins there.
 pub const TOP: u32 = u32::MAX;
 
 /// A block, a `for`, a function or the program: its own names, and the `var` names declared at any depth in it.
@@ -15,7 +15,7 @@ pub struct Scope {
     pub vars: IndexMap<String, Declared>,
     /// It is a whole function's, or the program's.
     pub whole: bool,
-    /// The place of the function that it belongs to.
+    /// The offset of the function that it belongs to.
     pub owner: u32,
 }
 
@@ -31,24 +31,24 @@ impl Drop for Scope {
     }
 }
 
-/// A walk over a tree: the scopes around where it is, the innermost last, and the places that it has met.
+/// A walk over a tree: the scopes around where it is, the innermost last, and the mentions that it has met.
 pub struct Walk {
     pub alloc: Global,
     pub scopes: Vec<Scope>,
-    pub places: Vec<Seen>,
+    pub mentions: Vec<Mention>,
 }
 
 impl Walk {
-    /// The places that it has met.
-    pub fn into_places(self) -> Vec<Seen>
-        ensures { result ≡ self.places }
+    /// The mentions that it has met.
+    pub fn into_mentions(self) -> Vec<Mention>
+        ensures { result ≡ self.mentions }
     {
         let Walk {
             alloc: _,
             scopes: _,
-            places,
+            mentions,
         } = self;
-        places
+        mentions
     }
 }
 
@@ -58,7 +58,7 @@ impl Drop for Walk {
         let Walk {
             alloc: _,
             scopes: _,
-            places: _,
+            mentions: _,
         } = self;
     }
 }

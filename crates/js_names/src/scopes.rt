@@ -13,9 +13,9 @@ use crate::declare::{
     declare_list_vars, declare_own, declare_own_stmt, declare_own_stmts, declare_start_own,
     declare_start_vars, declare_stmt_vars,
 };
-use crate::place::{Declared, Role};
+use crate::mention::{Declared, Role};
 use crate::scope::{Scope, TOP};
-use crate::seeing::for_of_role;
+use crate::steps::for_of_role;
 use indexmap::IndexMap;
 use js_tree::{DeclareKind, Item, Name, Start, Stmt, Tree};
 use std::alloc::{AllocError, Global};
@@ -58,7 +58,7 @@ pub fn for_three_scope(
     Ok(scope)
 }
 
-/// Declares the name of a `for` over a list, which can be copied from this place on.
+/// Declares the name of a `for` over a list, which can be copied from this offset on.
 fn declare_for_of(
     alloc: Global,
     own: &mut IndexMap<String, Declared>,
@@ -73,7 +73,7 @@ fn declare_for_of(
     let role = for_of_role(kind);
     let declared = Declared {
         role,
-        place: name.spot.at,
+        offset: name.spot.at,
         end,
         owner,
         direct: false,
@@ -146,7 +146,7 @@ fn declare_parameter(
     let given = given_of(vars, name.text.as_str());
     let declared = Declared {
         role: Role::Parameter,
-        place: name.spot.at,
+        offset: name.spot.at,
         end: name.spot.at.max(given),
         owner,
         direct: false,
@@ -207,7 +207,7 @@ fn declare_item(
         Item::Function(_, name, _, _) => {
             let declared = Declared {
                 role: Role::Function,
-                place: name.spot.at,
+                offset: name.spot.at,
                 end: name.spot.at,
                 owner: TOP,
                 direct: true,

@@ -1,23 +1,23 @@
-//! The walk over a tree, which lists its places in text order.
+//! The walk over a tree, which lists its mentions in text order.
 ghost use Rattle.std.specs.Prelude.{◌≡◌, ◌++◌, IfOk, OnOk, is_some, string_bytes, codes, [], map, if◌then◌else◌};
 ghost use Rattle.std.specs.List.{flat_map};
 ghost use Rattle.js_tree.specs.Views.{plain_expr, plain_start, plain_stmt, plain_tree};
 ghost use Rattle.js_names.specs.Scopes.{block_scope, for_three_scope, list_scope, for_of_role, function_scope};
 ghost use Rattle.js_names.specs.Forms.{object_of, value_builtin, called_builtin};
-ghost use Rattle.js_names.specs.Sites.{site, begin_site, parameter_sites, member_sites, in_function, in_loop, word_at};
-ghost use Rattle.js_names.specs.Places.{places};
-ghost use Rattle.js_names.specs.Views.{place_of};
+ghost use Rattle.js_names.specs.Unresolved.{one_mention, begin_mention, parameter_mentions, member_mentions, in_function, in_loop, word_at};
+ghost use Rattle.js_names.specs.Mentions.{mentions};
+ghost use Rattle.js_names.specs.Views.{mention_of};
 ghost use Rattle.js_names.specs.inner.Walks.{Adds, Enters, EntersForOf, scopes_in};
-ghost use Rattle.js_names.specs.inner.TreeSites.{tree_sites, field_sites, declarator_sites, tree_stmt_sites, tree_item_sites, block_sites, arrow_sites, body_sites, declared_sites, listed_sites, turn_sites, perhaps_tree_sites, start_tree_sites};
+ghost use Rattle.js_names.specs.inner.TreeMentions.{tree_mentions, field_mentions, declarator_mentions, tree_stmt_mentions, tree_item_mentions, block_mentions, arrow_mentions, body_mentions, declared_mentions, listed_mentions, turn_mentions, perhaps_tree_mentions, start_tree_mentions};
 
 use crate::first::program_spot;
 use crate::forms::{called_builtin, object_of, value_builtin};
-use crate::place::{Around, Role, Seen, What};
+use crate::mention::{Around, Mention, Role, What};
 use crate::scope::{TOP, Walk};
 use crate::scopes::{
     block_scope, for_of_scope, for_three_scope, function_scope, list_scope, program_scope,
 };
-use crate::seeing::{
+use crate::steps::{
     declared_role, enter, for_of_role, in_function, in_loop, leave, put_begin, put_changed,
     put_name, put_parameters, put_read, put_word,
 };
@@ -30,7 +30,7 @@ use std::alloc::{AllocError, Global};
 /// A use of `bp` or `Math` that is not a form, named by both words.
 fn put_misuse(walk: &mut Walk, around: Around, object: &Name, word: &str) -> Result<(), AllocError>
     ensures { OnOk result (Adds walk.old walk.new
-        (site (scopes_in walk.old) around What.Misuses
+        (one_mention (scopes_in walk.old) around What.Misuses
         (word_at (object.now.text ++ (codes "." ++ word.now)) object.now.spot))) }
 {
     let text = member_name(walk.alloc, object.text.as_str(), word)?;
@@ -49,7 +49,8 @@ fn member_name(alloc: Global, object: &str, word: &str) -> Result<String, AllocE
 
 #[cycle(walk)]
 fn put_expr(walk: &mut Walk, around: Around, e: &Expr) -> Result<(), AllocError>
-    ensures { OnOk result (Adds walk.old walk.new (tree_sites (scopes_in walk.old) around e.now)) }
+    ensures { OnOk result (Adds walk.old walk.new
+        (tree_mentions (scopes_in walk.old) around e.now)) }
 {
     match &e.form {
         Form::Number(_) => Ok(()),
@@ -93,9 +94,9 @@ fn put_expr(walk: &mut Walk, around: Around, e: &Expr) -> Result<(), AllocError>
 #[cycle(walk)]
 fn put_member(walk: &mut Walk, around: Around, e: &Expr, word: &Text) -> Result<(), AllocError>
     ensures { OnOk result (Adds walk.old walk.new
-        (member_sites (scopes_in walk.old) around (object_of (plain_expr e.now)) word.now
+        (member_mentions (scopes_in walk.old) around (object_of (plain_expr e.now)) word.now
         (is_some (value_builtin (plain_expr e.now) word.now))
-        (tree_sites (scopes_in walk.old) around e.now))) }
+        (tree_mentions (scopes_in walk.old) around e.now))) }
 {
     match object_of(e) {
         None => put_expr(walk, around, e),
@@ -113,7 +114,7 @@ fn put_member(walk: &mut Walk, around: Around, e: &Expr, word: &Text) -> Result<
 #[cycle(walk)]
 fn put_callee(walk: &mut Walk, around: Around, callee: &Expr) -> Result<(), AllocError>
     ensures { OnOk result (Adds walk.old walk.new
-        (if is_some (called_builtin (plain_expr callee.now)) then [] else tree_sites
+        (if is_some (called_builtin (plain_expr callee.now)) then [] else tree_mentions
         (scopes_in walk.old) around callee.now)) }
 {
     if called_builtin(callee).is_some() {
@@ -127,7 +128,7 @@ fn put_callee(walk: &mut Walk, around: Around, callee: &Expr) -> Result<(), Allo
 #[cycle(walk)]
 fn put_arrow(walk: &mut Walk, spot: Spot, names: &[Name], value: &Expr) -> Result<(), AllocError>
     ensures { OnOk result (Adds walk.old walk.new
-        (arrow_sites (scopes_in walk.old) spot names.now value.now)) }
+        (arrow_mentions (scopes_in walk.old) spot names.now value.now)) }
 {
     let scope = function_scope(walk.alloc, spot.at, names, &[])?;
     enter(walk, scope)?;
@@ -146,7 +147,7 @@ fn put_function(
     body: &[Stmt],
 ) -> Result<(), AllocError>
     ensures { OnOk result (Adds walk.old walk.new
-        (body_sites (scopes_in walk.old) spot names.now body.now)) }
+        (body_mentions (scopes_in walk.old) spot names.now body.now)) }
 {
     let scope = function_scope(walk.alloc, spot.at, names, body)?;
     enter(walk, scope)?;
@@ -160,7 +161,7 @@ fn put_function(
 #[cycle(walk)]
 fn put_exprs(walk: &mut Walk, around: Around, es: &[Expr]) -> Result<(), AllocError>
     ensures { OnOk result (Adds walk.old walk.new
-        (flat_map (tree_sites (scopes_in walk.old) around) es.now)) }
+        (flat_map (tree_mentions (scopes_in walk.old) around) es.now)) }
 {
     for e in es {
         put_expr(walk, around, e)?;
@@ -172,7 +173,7 @@ fn put_exprs(walk: &mut Walk, around: Around, es: &[Expr]) -> Result<(), AllocEr
 #[cycle(walk)]
 fn put_fields(walk: &mut Walk, around: Around, fields: &[Field]) -> Result<(), AllocError>
     ensures { OnOk result (Adds walk.old walk.new
-        (flat_map (field_sites (scopes_in walk.old) around) fields.now)) }
+        (flat_map (field_mentions (scopes_in walk.old) around) fields.now)) }
 {
     for field in fields {
         put_expr(walk, around, &field.value)?;
@@ -184,7 +185,7 @@ fn put_fields(walk: &mut Walk, around: Around, fields: &[Field]) -> Result<(), A
 #[cycle(walk)]
 fn put_perhaps(walk: &mut Walk, around: Around, e: &Option<Expr>) -> Result<(), AllocError>
     ensures { OnOk result (Adds walk.old walk.new
-        (perhaps_tree_sites (scopes_in walk.old) around e.now)) }
+        (perhaps_tree_mentions (scopes_in walk.old) around e.now)) }
 {
     match e {
         Some(e) => put_expr(walk, around, e),
@@ -201,7 +202,7 @@ fn put_declarator(
     declarator: &Declarator,
 ) -> Result<(), AllocError>
     ensures { OnOk result (Adds walk.old walk.new
-        (declarator_sites (scopes_in walk.old) around kind declarator.now)) }
+        (declarator_mentions (scopes_in walk.old) around kind declarator.now)) }
 {
     put_name(
         walk,
@@ -221,7 +222,7 @@ fn put_declarators(
     declarators: &[Declarator],
 ) -> Result<(), AllocError>
     ensures { OnOk result (Adds walk.old walk.new
-        (flat_map (declarator_sites (scopes_in walk.old) around kind) declarators.now)) }
+        (flat_map (declarator_mentions (scopes_in walk.old) around kind) declarators.now)) }
 {
     for declarator in declarators {
         put_declarator(walk, around, kind, declarator)?;
@@ -233,7 +234,7 @@ fn put_declarators(
 #[cycle(walk)]
 fn put_start(walk: &mut Walk, around: Around, start: &Start) -> Result<(), AllocError>
     ensures { OnOk result (Adds walk.old walk.new
-        (start_tree_sites (scopes_in walk.old) around start.now)) }
+        (start_tree_mentions (scopes_in walk.old) around start.now)) }
 {
     match start {
         Start::Nothing => Ok(()),
@@ -245,7 +246,7 @@ fn put_start(walk: &mut Walk, around: Around, start: &Start) -> Result<(), Alloc
 #[cycle(walk)]
 fn put_stmt(walk: &mut Walk, around: Around, stmt: &Stmt) -> Result<(), AllocError>
     ensures { OnOk result (Adds walk.old walk.new
-        (tree_stmt_sites (scopes_in walk.old) around stmt.now)) }
+        (tree_stmt_mentions (scopes_in walk.old) around stmt.now)) }
 {
     match &stmt.form {
         StmtForm::Empty => Ok(()),
@@ -300,7 +301,7 @@ fn put_listed(
     list: &Expr,
 ) -> Result<(), AllocError>
     ensures { OnOk result (Adds walk.old walk.new
-        (listed_sites (scopes_in walk.old) around kind name.now list.now)) }
+        (listed_mentions (scopes_in walk.old) around kind name.now list.now)) }
 {
     enter_list(walk, around, kind, name)?;
     put_expr(walk, around, list)?;
@@ -318,7 +319,7 @@ fn put_turns(
     body: &Stmt,
 ) -> Result<(), AllocError>
     ensures { OnOk result (Adds walk.old walk.new
-        (turn_sites (scopes_in walk.old) around kind name.now body.now)) }
+        (turn_mentions (scopes_in walk.old) around kind name.now body.now)) }
 {
     let scope = for_of_scope(walk.alloc, around.owner, kind, name, body)?;
     enter(walk, scope)?;
@@ -331,7 +332,7 @@ fn put_turns(
 #[cycle(walk)]
 fn put_block(walk: &mut Walk, around: Around, body: &[Stmt]) -> Result<(), AllocError>
     ensures { OnOk result (Adds walk.old walk.new
-        (block_sites (scopes_in walk.old) around body.now)) }
+        (block_mentions (scopes_in walk.old) around body.now)) }
 {
     let scope = block_scope(walk.alloc, around.owner, body)?;
     enter(walk, scope)?;
@@ -344,7 +345,7 @@ fn put_block(walk: &mut Walk, around: Around, body: &[Stmt]) -> Result<(), Alloc
 #[cycle(walk)]
 fn put_stmts(walk: &mut Walk, around: Around, body: &[Stmt]) -> Result<(), AllocError>
     ensures { OnOk result (Adds walk.old walk.new
-        (flat_map (tree_stmt_sites (scopes_in walk.old) around) body.now)) }
+        (flat_map (tree_stmt_mentions (scopes_in walk.old) around) body.now)) }
 {
     for stmt in body {
         put_stmt(walk, around, stmt)?;
@@ -355,7 +356,7 @@ fn put_stmts(walk: &mut Walk, around: Around, body: &[Stmt]) -> Result<(), Alloc
 /// The parameters of a function, after its first token.
 fn put_head(walk: &mut Walk, spot: Spot, names: &[Name]) -> Result<(), AllocError>
     ensures { OnOk result (Adds walk.old walk.new
-        (begin_site (scopes_in walk.old) spot.at spot ++ parameter_sites (scopes_in walk.old)
+        (begin_mention (scopes_in walk.old) spot.at spot ++ parameter_mentions (scopes_in walk.old)
         (in_function spot.at) names.now)) }
 {
     put_begin(walk, spot.at, spot)?;
@@ -395,7 +396,7 @@ fn put_declared(
     body: &[Stmt],
 ) -> Result<(), AllocError>
     ensures { OnOk result (Adds walk.old walk.new
-        (declared_sites (scopes_in walk.old) spot name.now names.now body.now)) }
+        (declared_mentions (scopes_in walk.old) spot name.now names.now body.now)) }
 {
     put_name(walk, in_function(TOP), What::Declares(Role::Function), name)?;
     put_function(walk, spot, names, body)
@@ -403,7 +404,8 @@ fn put_declared(
 
 /// What a program lists.
 fn put_item(walk: &mut Walk, item: &Item) -> Result<(), AllocError>
-    ensures { OnOk result (Adds walk.old walk.new (tree_item_sites (scopes_in walk.old) item.now)) }
+    ensures { OnOk result (Adds walk.old walk.new
+        (tree_item_mentions (scopes_in walk.old) item.now)) }
 {
     match item {
         Item::Statement(_, stmt) => put_stmt(walk, in_function(TOP), stmt),
@@ -414,7 +416,7 @@ fn put_item(walk: &mut Walk, item: &Item) -> Result<(), AllocError>
 /// All that a program lists.
 fn put_items(walk: &mut Walk, items: &[Item]) -> Result<(), AllocError>
     ensures { OnOk result (Adds walk.old walk.new
-        (flat_map (tree_item_sites (scopes_in walk.old)) items.now)) }
+        (flat_map (tree_item_mentions (scopes_in walk.old)) items.now)) }
 {
     for item in items {
         put_item(walk, item)?;
@@ -422,18 +424,18 @@ fn put_items(walk: &mut Walk, items: &[Item]) -> Result<(), AllocError>
     Ok(())
 }
 
-/// The places of a program.
-pub fn places_of(alloc: Global, tree: &Tree) -> Result<Vec<Seen>, AllocError>
-    ensures { IfOk result (λ seen. map place_of seen.items ≡ places (plain_tree tree.now)) }
+/// The mentions of a program.
+pub fn mentions_of(alloc: Global, tree: &Tree) -> Result<Vec<Mention>, AllocError>
+    ensures { IfOk result (λ found. map mention_of found.items ≡ mentions (plain_tree tree.now)) }
 {
     let mut walk = Walk {
         alloc,
         scopes: Vec::new(alloc),
-        places: Vec::new(alloc),
+        mentions: Vec::new(alloc),
     };
     let scope = program_scope(alloc, tree)?;
     enter(&mut walk, scope)?;
     put_begin(&mut walk, TOP, program_spot(tree))?;
     put_items(&mut walk, &tree.items)?;
-    Ok(walk.into_places())
+    Ok(walk.into_mentions())
 }

@@ -14,7 +14,7 @@ use Rattle.js_program.specs.declared.builtin.Builtin.TheVariants.{Floor}
 use Rattle.js_program.specs.declared.node.NodeForm.{NodeForm}
 use Rattle.js_program.specs.declared.node.NodeForm.TheVariants as N
 use Rattle.js_program.specs.PlainProgram as n
-use Rattle.js_names.specs.Places.{Place}
+use Rattle.js_names.specs.Mentions.{Mention}
 use Rattle.js_names.specs.Forms.{called_builtin, value_builtin}
 use Rattle.js_resolver.specs.declared.emit.Called.{Called}
 use Rattle.js_resolver.specs.declared.emit.Called.TheVariants as C
@@ -25,23 +25,23 @@ use Rattle.js_resolver.specs.Nodes.{arguments_piece, expr_parts, expr_piece, exp
 use Rattle.js_resolver.specs.inner.Emits.{count, is_divide, Emits, EmitsCallee, EmitsCalled, Forms, FormsCall, FormsExpr, FormsBuiltin, builtin_in, word_in, parts_in, called_piece, callee_piece}
 use Rattle.js_resolver.proofs.Emitting.{adds_both, adds_none, counts, emits_both, emits_none}
 
-pub member_builtin : (ps : List Place) (a : Emitter) (x : PlainExpr) (t : List ℕ) (f : Builtin) (w : Vec ℕ Global) → value_builtin x t ≡ Some f → w.items ≡ [] → FormsExpr ps a a (N.Builtin f w) (p.member x t)
+pub member_builtin : (ps : List Mention) (a : Emitter) (x : PlainExpr) (t : List ℕ) (f : Builtin) (w : Vec ℕ Global) → value_builtin x t ≡ Some f → w.items ≡ [] → FormsExpr ps a a (N.Builtin f w) (p.member x t)
 unfolding form_parts
 member_builtin ps a x t f w e d =
     subst (λ o. Forms a a (N.Builtin f w) (λ parts. member_node o t parts) (if is_some o then none else expr_piece ps (count a) x)) (sym e) (record { adds = adds_none a; form = ap (n.builtin f) d })
 
-pub member_plain : (ps : List Place) (a b : Emitter) (x : PlainExpr) (t : List ℕ) (i : ℕ) → value_builtin x t ≡ None → Emits a b (i ∷ []) (expr_piece ps (count a) x) → FormsExpr ps a b (N.Member i t) (p.member x t)
+pub member_plain : (ps : List Mention) (a b : Emitter) (x : PlainExpr) (t : List ℕ) (i : ℕ) → value_builtin x t ≡ None → Emits a b (i ∷ []) (expr_piece ps (count a) x) → FormsExpr ps a b (N.Member i t) (p.member x t)
 unfolding form_parts
 member_plain ps a b x t i e k =
     subst (λ o. Forms a b (N.Member i t) (λ parts. member_node o t parts) (if is_some o then none else expr_piece ps (count a) x)) (sym e) (record { adds = k.adds; form = ap (member_node None t) k.parts })
 
 -- arguments of which none is divided
-arguments_plain : (ps : List Place) (b : ℕ) (es : PlainExprs) → arguments_piece ps b false es ≡ exprs_piece ps b es
+arguments_plain : (ps : List Mention) (b : ℕ) (es : PlainExprs) → arguments_piece ps b false es ≡ exprs_piece ps b es
 unfolding arguments_piece exprs_piece
 arguments_plain ps b p.no_exprs = refl
 arguments_plain ps b (p.expr_in e es) = refl
 
-pub builtin_plain : (ps : List Place) (a b : Emitter) (f : Builtin) (es : PlainExprs) (w : Vec ℕ Global) → floors_division (Some f) es ≡ false → Emits a b w.items (exprs_piece ps (count a) es) → FormsBuiltin ps a b (N.Builtin f w) f es
+pub builtin_plain : (ps : List Mention) (a b : Emitter) (f : Builtin) (es : PlainExprs) (w : Vec ℕ Global) → floors_division (Some f) es ≡ false → Emits a b w.items (exprs_piece ps (count a) es) → FormsBuiltin ps a b (N.Builtin f w) f es
 builtin_plain ps a b f es w e k =
     subst (λ z. Forms a b (N.Builtin f w) (call_node (Some f) None z) (arguments_piece ps (count a) z es)) (sym e)
     (subst (λ z. Forms a b (N.Builtin f w) (call_node (Some f) None false) z) (sym (arguments_plain ps (count a) es)) (record { adds = k.adds; form = ap (n.builtin f) k.parts }))
@@ -52,12 +52,12 @@ not_floor Floor es h = absurd (h refl)
 not_floor _ es h = refl
 
 -- `Math.floor` of nothing
-pub floor_none : (ps : List Place) (a : Emitter) (xs : List Expr) (w : Vec ℕ Global) → xs ≡ [] → w.items ≡ [] → FormsBuiltin ps a a (N.Builtin Floor w) Floor (exprs_of (map plain_expr xs))
+pub floor_none : (ps : List Mention) (a : Emitter) (xs : List Expr) (w : Vec ℕ Global) → xs ≡ [] → w.items ≡ [] → FormsBuiltin ps a a (N.Builtin Floor w) Floor (exprs_of (map plain_expr xs))
 unfolding arguments_piece
 floor_none ps a xs w e d = subst (λ z. FormsBuiltin ps a a (N.Builtin Floor w) Floor (exprs_of (map plain_expr z))) (sym e) (record { adds = adds_none a; form = ap (n.builtin Floor) d })
 
 -- of a division
-pub floor_divides : (ps : List Place) (a b c d : Emitter) (first l r : PlainExpr) (parens line : ℕ) (es all : PlainExprs) (i j : ℕ) (w : Vec ℕ Global) → all ≡ p.expr_in first es → first ≡ p.at parens line (p.binary Divide l r)
+pub floor_divides : (ps : List Mention) (a b c d : Emitter) (first l r : PlainExpr) (parens line : ℕ) (es all : PlainExprs) (i j : ℕ) (w : Vec ℕ Global) → all ≡ p.expr_in first es → first ≡ p.at parens line (p.binary Divide l r)
     → Emits a b (i ∷ []) (expr_piece ps (count a) l) → Emits b c (j ∷ []) (expr_piece ps (count b) r) → Emits c d w.items (exprs_piece ps (count c) es) → FormsBuiltin ps a d (N.FloorDivide i j w) Floor all
 unfolding arguments_piece expr_parts form_parts
 floor_divides ps a b c d first l r parens line es whole i j w o e g h k =
@@ -88,7 +88,7 @@ pub exprs_first : (xs ys : List Expr) (x : Expr) → xs ≡ x ∷ ys → exprs_o
 exprs_first xs ys x e = ap (λ z. exprs_of (map plain_expr z)) e
 
 -- a method
-pub called_method : (ps : List Place) (a b : Emitter) (e x : PlainExpr) (parens line : ℕ) (t : List ℕ) (i : ℕ) → e ≡ p.at parens line (p.member x t) → value_builtin x t ≡ None
+pub called_method : (ps : List Mention) (a b : Emitter) (e x : PlainExpr) (parens line : ℕ) (t : List ℕ) (i : ℕ) → e ≡ p.at parens line (p.member x t) → value_builtin x t ≡ None
     → Emits a b (i ∷ []) (expr_piece ps (count a) x) → EmitsCalled ps a b (C.Method i t) e
 unfolding expr_parts form_parts
 called_method ps a b e x parens line t i q v g =
@@ -99,7 +99,7 @@ called_method ps a b e x parens line t i q v g =
     })
 
 -- anything else
-pub called_other : (ps : List Place) (a b : Emitter) (e : PlainExpr) (i : ℕ) → method_of e ≡ None → Emits a b (i ∷ []) (expr_piece ps (count a) e) → EmitsCalled ps a b (C.Other i) e
+pub called_other : (ps : List Mention) (a b : Emitter) (e : PlainExpr) (i : ℕ) → method_of e ≡ None → Emits a b (i ∷ []) (expr_piece ps (count a) e) → EmitsCalled ps a b (C.Other i) e
 called_other ps a b e i q g = record {
   emits = subst (λ o. Emits a b (i ∷ []) (if is_some o then expr_parts ps (count a) e else expr_piece ps (count a) e)) (sym q) g;
   builtin = refl;
@@ -116,7 +116,7 @@ pub no_method : (e x : PlainExpr) (parens line : ℕ) (t : List ℕ) → e ≡ p
 no_method e x parens line t q v = ap method_of q ∙ ap (λ z. if z then None else Some t) v
 
 -- a form of the language that is called
-pub callee_builtin : (ps : List Place) (a : Emitter) (e : PlainExpr) (f : Builtin) → called_builtin e ≡ Some f → EmitsCallee ps a a (C.Builtin f) e
+pub callee_builtin : (ps : List Mention) (a : Emitter) (e : PlainExpr) (f : Builtin) → called_builtin e ≡ Some f → EmitsCallee ps a a (C.Builtin f) e
 unfolding EmitsCallee
 callee_builtin ps a e f q = record {
   emits = subst (λ o. Emits a a [] (if is_some o then none else called_piece ps (count a) e)) (sym q) (emits_none a);
@@ -125,7 +125,7 @@ callee_builtin ps a e f q = record {
 }
 
 -- and anything else
-pub callee_called : {E : Type 0} (r : Result Called E) (ps : List Place) (a b : Emitter) (e : PlainExpr) → called_builtin e ≡ None → IfOk r (λ x. EmitsCalled ps a b x e) → IfOk r (λ x. EmitsCallee ps a b x e)
+pub callee_called : {E : Type 0} (r : Result Called E) (ps : List Mention) (a b : Emitter) (e : PlainExpr) → called_builtin e ≡ None → IfOk r (λ x. EmitsCalled ps a b x e) → IfOk r (λ x. EmitsCallee ps a b x e)
 unfolding EmitsCallee
 callee_called (Err y) ps a b e q h = tt
 callee_called (Ok x) ps a b e q h = record {
@@ -136,11 +136,11 @@ callee_called (Ok x) ps a b e q h = record {
 
 -- the arguments of a method, and of anything else
 
-pub arguments_method : (ps : List Place) (a b : Emitter) (i : ℕ) (t : List ℕ) (es : PlainExprs) (w : Vec ℕ Global) → Emits a b w.items (exprs_piece ps (count a) es) → FormsCall ps a b (N.Method i t w) (C.Method i t) es
+pub arguments_method : (ps : List Mention) (a b : Emitter) (i : ℕ) (t : List ℕ) (es : PlainExprs) (w : Vec ℕ Global) → Emits a b w.items (exprs_piece ps (count a) es) → FormsCall ps a b (N.Method i t w) (C.Method i t) es
 arguments_method ps a b i t es w k =
     subst (λ z. Forms a b (N.Method i t w) (λ parts. call_node None (Some t) false (i ∷ parts)) z) (sym (arguments_plain ps (count a) es)) (record { adds = k.adds; form = ap (λ z. n.method i t z) k.parts })
 
-pub arguments_other : (ps : List Place) (a b : Emitter) (i : ℕ) (es : PlainExprs) (w : Vec ℕ Global) → Emits a b w.items (exprs_piece ps (count a) es) → FormsCall ps a b (N.Call i w) (C.Other i) es
+pub arguments_other : (ps : List Mention) (a b : Emitter) (i : ℕ) (es : PlainExprs) (w : Vec ℕ Global) → Emits a b w.items (exprs_piece ps (count a) es) → FormsCall ps a b (N.Call i w) (C.Other i) es
 arguments_other ps a b i es w k =
     subst (λ z. Forms a b (N.Call i w) (λ parts. call_node None None false (i ∷ parts)) z) (sym (arguments_plain ps (count a) es)) (record { adds = k.adds; form = ap (λ z. n.call i z) k.parts })
 
@@ -151,7 +151,7 @@ call_node_is : (f : Option Builtin) (g : Option Builtin) (v w : Option (List ℕ
 call_node_is f (Some b) v w d parts e h = ap (λ z. call_node z v d parts) e
 call_node_is f None v w d parts e h = ap (λ z. call_node z v d parts) e ∙ ap (λ z. call_node None z d parts) (h refl)
 
-pub call_whole : (ps : List Place) (a b c : Emitter) (x : NodeForm) (called : Called) (e : PlainExpr) (es : PlainExprs) → EmitsCallee ps a b called e → FormsCall ps b c x called es → FormsExpr ps a c x (p.call e es)
+pub call_whole : (ps : List Mention) (a b c : Emitter) (x : NodeForm) (called : Called) (e : PlainExpr) (es : PlainExprs) → EmitsCallee ps a b called e → FormsCall ps b c x called es → FormsExpr ps a c x (p.call e es)
 unfolding form_parts EmitsCallee
 call_whole ps a b c x called e es h k =
     let u = callee_piece ps (count a) e in

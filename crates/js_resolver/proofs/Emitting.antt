@@ -6,7 +6,7 @@ use Rattle.js_tree.specs.Plain.{PlainForm, PlainStmtForm}
 use Rattle.js_program.specs.declared.node.NodeForm.{NodeForm}
 use Rattle.js_program.specs.PlainProgram.{PlainNodeForm}
 use Rattle.js_program.specs.Views.{plain_node, plain_node_form}
-use Rattle.js_names.specs.Places.{Place}
+use Rattle.js_names.specs.Mentions.{Mention}
 use Rattle.js_resolver.specs.declared.emitter.Emitter.{Emitter}
 use Rattle.js_resolver.specs.Pieces.{Piece, none, beside, after, closed}
 use Rattle.js_resolver.specs.NodeForms.{expr_node, stmt_node}
@@ -56,14 +56,14 @@ if_closes (Err e) a b c line form shape x y q h k = tt
 if_closes (Ok n) a b c line form shape x y q h k = subst (Emits a c (n ∷ [])) q (closes a b c line n form shape x h k)
 
 -- a form from the numbers of its parts
-pub forms_expr : (ps : List Place) (a b : Emitter) (form : NodeForm) (ns : List ℕ) (f g : PlainForm) → f ≡ g → Emits a b ns (form_parts ps (count a) f) → plain_node_form form ≡ expr_node ps f ns → FormsExpr ps a b form g
+pub forms_expr : (ps : List Mention) (a b : Emitter) (form : NodeForm) (ns : List ℕ) (f g : PlainForm) → f ≡ g → Emits a b ns (form_parts ps (count a) f) → plain_node_form form ≡ expr_node ps f ns → FormsExpr ps a b form g
 forms_expr ps a b form ns f g e h k = subst (FormsExpr ps a b form) e (record { adds = h.adds; form = k ∙ ap (expr_node ps f) h.parts })
 
-pub forms_stmt : (ps : List Place) (a b : Emitter) (form : NodeForm) (ns : List ℕ) (f g : PlainStmtForm) → f ≡ g → Emits a b ns (stmt_parts ps (count a) f) → plain_node_form form ≡ stmt_node ps f ns → FormsStmt ps a b form g
+pub forms_stmt : (ps : List Mention) (a b : Emitter) (form : NodeForm) (ns : List ℕ) (f g : PlainStmtForm) → f ≡ g → Emits a b ns (stmt_parts ps (count a) f) → plain_node_form form ≡ stmt_node ps f ns → FormsStmt ps a b form g
 forms_stmt ps a b form ns f g e h k = subst (FormsStmt ps a b form) e (record { adds = h.adds; form = k ∙ ap (stmt_node ps f) h.parts })
 
 -- the same of a form that another walk answers
-pub if_forms_expr : {E : Type 0} (r : Result NodeForm E) (ps : List Place) (a b : Emitter) (f g : PlainForm) → f ≡ g → IfOk r (λ x. FormsExpr ps a b x f) → IfOk r (λ x. FormsExpr ps a b x g)
+pub if_forms_expr : {E : Type 0} (r : Result NodeForm E) (ps : List Mention) (a b : Emitter) (f g : PlainForm) → f ≡ g → IfOk r (λ x. FormsExpr ps a b x f) → IfOk r (λ x. FormsExpr ps a b x g)
 if_forms_expr r ps a b f g e h = subst (λ z. IfOk r (λ x. FormsExpr ps a b x z)) e h
 
 -- loops: what is left

@@ -13,8 +13,8 @@ use Rattle.js_program.specs.declared.node.Variable.TheVariants.{Slot, Constant}
 use Rattle.js_program.specs.PlainProgram as n
 use Rattle.js_program.specs.PlainProgram.{PlainNode, PlainNodeForm, PlainDeclared}
 use Rattle.js_names.specs.Scopes.{program_scope, function_scope, block_scope, for_three_scope, list_scope, for_of_scope}
-use Rattle.js_names.specs.Sites.{expr_sites, form_sites, exprs_sites, fields_sites, perhaps_sites, declarators_sites, start_sites, stmt_sites, stmt_form_sites, stmts_sites, item_sites, program_sites}
-use Rattle.js_names.specs.Places.{found, found_var, functions_of, repeated, blocked, see, places}
+use Rattle.js_names.specs.Unresolved.{expr_mentions, form_mentions, exprs_mentions, fields_mentions, perhaps_mentions, declarators_mentions, start_mentions, stmt_mentions, stmt_form_mentions, stmts_mentions, item_mentions, unresolved_mentions}
+use Rattle.js_names.specs.Mentions.{found, found_var, functions_of, repeated, blocked, look_up, mentions}
 use Rattle.js_names.specs.Slots.{assigned_in, captures, holdings, vars_of, slot_count, slots_of, constants_of, functions_in}
 use Rattle.js_names.specs.Rules.{fault_at, name_fault}
 use Rattle.js_resolver.specs.Variables.{named_at, code_at, around_of, body_of}
@@ -101,31 +101,31 @@ pub three_functions_program : resolved three_functions ≡ Some (record {
   constants = n.undeclared ∷ n.of_function 0 ∷ [];
   top = body_with 0 0 [] [] (n.statements (3 ∷ 22 ∷ [])) 1;
 })
-unfolding program_scope function_scope block_scope for_three_scope list_scope for_of_scope expr_sites form_sites exprs_sites fields_sites perhaps_sites declarators_sites start_sites stmt_sites stmt_form_sites stmts_sites item_sites program_sites found found_var functions_of repeated blocked see places assigned_in captures holdings vars_of slot_count slots_of constants_of functions_in fault_at name_fault named_at code_at around_of body_of expr_piece expr_parts form_parts exprs_piece arguments_piece fields_piece perhaps_piece declarators_piece start_piece stmt_piece stmt_parts stmts_piece item_piece items_piece program_of_tree resolved
+unfolding program_scope function_scope block_scope for_three_scope list_scope for_of_scope expr_mentions form_mentions exprs_mentions fields_mentions perhaps_mentions declarators_mentions start_mentions stmt_mentions stmt_form_mentions stmts_mentions item_mentions unresolved_mentions found found_var functions_of repeated blocked look_up mentions assigned_in captures holdings vars_of slot_count slots_of constants_of functions_in fault_at name_fault named_at code_at around_of body_of expr_piece expr_parts form_parts exprs_piece arguments_piece fields_piece perhaps_piece declarators_piece start_piece stmt_piece stmt_parts stmts_piece item_piece items_piece program_of_tree resolved
 three_functions_program = refl
 
 -- Math.floor(7 / 2, 1): the operands are parts themselves
 pub floor_of_a_division : (program_of_tree (t.statement (spot 0 1) (does (math_floor (expr 1 (t.binary Operator.Divide (whole 7) (whole 2)) ∷ whole 1 ∷ []))) ∷ [])).nodes
     ≡ node 1 (n.number (pos 7)) ∷ node 1 (n.number (pos 2)) ∷ node 1 (n.number (pos 1)) ∷ node 1 (n.floor_divide 0 1 (2 ∷ [])) ∷ node 1 (n.expression 3) ∷ []
-unfolding program_scope function_scope block_scope for_three_scope list_scope for_of_scope expr_sites form_sites exprs_sites fields_sites perhaps_sites declarators_sites start_sites stmt_sites stmt_form_sites stmts_sites item_sites program_sites found found_var functions_of repeated blocked see places assigned_in captures holdings vars_of slot_count slots_of constants_of functions_in fault_at name_fault named_at code_at around_of body_of expr_piece expr_parts form_parts exprs_piece arguments_piece fields_piece perhaps_piece declarators_piece start_piece stmt_piece stmt_parts stmts_piece item_piece items_piece program_of_tree resolved
+unfolding program_scope function_scope block_scope for_three_scope list_scope for_of_scope expr_mentions form_mentions exprs_mentions fields_mentions perhaps_mentions declarators_mentions start_mentions stmt_mentions stmt_form_mentions stmts_mentions item_mentions unresolved_mentions found found_var functions_of repeated blocked look_up mentions assigned_in captures holdings vars_of slot_count slots_of constants_of functions_in fault_at name_fault named_at code_at around_of body_of expr_piece expr_parts form_parts exprs_piece arguments_piece fields_piece perhaps_piece declarators_piece start_piece stmt_piece stmt_parts stmts_piece item_piece items_piece program_of_tree resolved
 floor_of_a_division = refl
 
 -- Math.floor(7)
 pub floor_of_a_number : (program_of_tree (t.statement (spot 0 1) (does (math_floor (whole 7 ∷ []))) ∷ [])).nodes
     ≡ node 1 (n.number (pos 7)) ∷ node 1 (n.builtin Builtin.Floor (0 ∷ [])) ∷ node 1 (n.expression 1) ∷ []
-unfolding program_scope function_scope block_scope for_three_scope list_scope for_of_scope expr_sites form_sites exprs_sites fields_sites perhaps_sites declarators_sites start_sites stmt_sites stmt_form_sites stmts_sites item_sites program_sites found found_var functions_of repeated blocked see places assigned_in captures holdings vars_of slot_count slots_of constants_of functions_in fault_at name_fault named_at code_at around_of body_of expr_piece expr_parts form_parts exprs_piece arguments_piece fields_piece perhaps_piece declarators_piece start_piece stmt_piece stmt_parts stmts_piece item_piece items_piece program_of_tree resolved
+unfolding program_scope function_scope block_scope for_three_scope list_scope for_of_scope expr_mentions form_mentions exprs_mentions fields_mentions perhaps_mentions declarators_mentions start_mentions stmt_mentions stmt_form_mentions stmts_mentions item_mentions unresolved_mentions found found_var functions_of repeated blocked look_up mentions assigned_in captures holdings vars_of slot_count slots_of constants_of functions_in fault_at name_fault named_at code_at around_of body_of expr_piece expr_parts form_parts exprs_piece arguments_piece fields_piece perhaps_piece declarators_piece start_piece stmt_piece stmt_parts stmts_piece item_piece items_piece program_of_tree resolved
 floor_of_a_number = refl
 
 -- (1).or(2): a method is one node, with what stands before the dot as its first part
 pub method_of_a_number : (program_of_tree (t.statement (spot 0 1) (does (expr 1 (t.call (expr 1 (t.member (whole 1) (codes "or"))) (exprs_of (whole 2 ∷ []))))) ∷ [])).nodes
     ≡ node 1 (n.number (pos 1)) ∷ node 1 (n.number (pos 2)) ∷ node 1 (n.method 0 (codes "or") (1 ∷ [])) ∷ node 1 (n.expression 2) ∷ []
-unfolding program_scope function_scope block_scope for_three_scope list_scope for_of_scope expr_sites form_sites exprs_sites fields_sites perhaps_sites declarators_sites start_sites stmt_sites stmt_form_sites stmts_sites item_sites program_sites found found_var functions_of repeated blocked see places assigned_in captures holdings vars_of slot_count slots_of constants_of functions_in fault_at name_fault named_at code_at around_of body_of expr_piece expr_parts form_parts exprs_piece arguments_piece fields_piece perhaps_piece declarators_piece start_piece stmt_piece stmt_parts stmts_piece item_piece items_piece program_of_tree resolved
+unfolding program_scope function_scope block_scope for_three_scope list_scope for_of_scope expr_mentions form_mentions exprs_mentions fields_mentions perhaps_mentions declarators_mentions start_mentions stmt_mentions stmt_form_mentions stmts_mentions item_mentions unresolved_mentions found found_var functions_of repeated blocked look_up mentions assigned_in captures holdings vars_of slot_count slots_of constants_of functions_in fault_at name_fault named_at code_at around_of body_of expr_piece expr_parts form_parts exprs_piece arguments_piece fields_piece perhaps_piece declarators_piece start_piece stmt_piece stmt_parts stmts_piece item_piece items_piece program_of_tree resolved
 method_of_a_number = refl
 
 -- bp.all(1): a call of a value
 pub all_called : (program_of_tree (t.statement (spot 0 1) (does (bp (codes "all") 0 (whole 1 ∷ []))) ∷ [])).nodes
     ≡ node 1 (n.builtin Builtin.All []) ∷ node 1 (n.number (pos 1)) ∷ node 1 (n.call 0 (1 ∷ [])) ∷ node 1 (n.expression 2) ∷ []
-unfolding program_scope function_scope block_scope for_three_scope list_scope for_of_scope expr_sites form_sites exprs_sites fields_sites perhaps_sites declarators_sites start_sites stmt_sites stmt_form_sites stmts_sites item_sites program_sites found found_var functions_of repeated blocked see places assigned_in captures holdings vars_of slot_count slots_of constants_of functions_in fault_at name_fault named_at code_at around_of body_of expr_piece expr_parts form_parts exprs_piece arguments_piece fields_piece perhaps_piece declarators_piece start_piece stmt_piece stmt_parts stmts_piece item_piece items_piece program_of_tree resolved
+unfolding program_scope function_scope block_scope for_three_scope list_scope for_of_scope expr_mentions form_mentions exprs_mentions fields_mentions perhaps_mentions declarators_mentions start_mentions stmt_mentions stmt_form_mentions stmts_mentions item_mentions unresolved_mentions found found_var functions_of repeated blocked look_up mentions assigned_in captures holdings vars_of slot_count slots_of constants_of functions_in fault_at name_fault named_at code_at around_of body_of expr_piece expr_parts form_parts exprs_piece arguments_piece fields_piece perhaps_piece declarators_piece start_piece stmt_piece stmt_parts stmts_piece item_piece items_piece program_of_tree resolved
 all_called = refl
 
 -- (function(a) { var b; { let c = 1 } var a = 1; (() => () => a) }): slots, `var`s, and a capture that is handed through
@@ -158,7 +158,7 @@ pub handed_through_program : resolved handed_through ≡ Some (record {
   constants = [];
   top = body_with 0 0 [] [] (n.statements (11 ∷ [])) 1;
 })
-unfolding program_scope function_scope block_scope for_three_scope list_scope for_of_scope expr_sites form_sites exprs_sites fields_sites perhaps_sites declarators_sites start_sites stmt_sites stmt_form_sites stmts_sites item_sites program_sites found found_var functions_of repeated blocked see places assigned_in captures holdings vars_of slot_count slots_of constants_of functions_in fault_at name_fault named_at code_at around_of body_of expr_piece expr_parts form_parts exprs_piece arguments_piece fields_piece perhaps_piece declarators_piece start_piece stmt_piece stmt_parts stmts_piece item_piece items_piece program_of_tree resolved
+unfolding program_scope function_scope block_scope for_three_scope list_scope for_of_scope expr_mentions form_mentions exprs_mentions fields_mentions perhaps_mentions declarators_mentions start_mentions stmt_mentions stmt_form_mentions stmts_mentions item_mentions unresolved_mentions found found_var functions_of repeated blocked look_up mentions assigned_in captures holdings vars_of slot_count slots_of constants_of functions_in fault_at name_fault named_at code_at around_of body_of expr_piece expr_parts form_parts exprs_piece arguments_piece fields_piece perhaps_piece declarators_piece start_piece stmt_piece stmt_parts stmts_piece item_piece items_piece program_of_tree resolved
 handed_through_program = refl
 
 -- var x = 1; for (const y of x) y; (function() { x }): a constant that is a `var`, and a slot of the top level
@@ -178,10 +178,10 @@ pub a_slot_of_the_top_level : resolved (
       constants = n.unset ∷ [];
       top = body_with 0 1 [] [] (n.statements (1 ∷ 5 ∷ [])) 1;
     })
-unfolding program_scope function_scope block_scope for_three_scope list_scope for_of_scope expr_sites form_sites exprs_sites fields_sites perhaps_sites declarators_sites start_sites stmt_sites stmt_form_sites stmts_sites item_sites program_sites found found_var functions_of repeated blocked see places assigned_in captures holdings vars_of slot_count slots_of constants_of functions_in fault_at name_fault named_at code_at around_of body_of expr_piece expr_parts form_parts exprs_piece arguments_piece fields_piece perhaps_piece declarators_piece start_piece stmt_piece stmt_parts stmts_piece item_piece items_piece program_of_tree resolved
+unfolding program_scope function_scope block_scope for_three_scope list_scope for_of_scope expr_mentions form_mentions exprs_mentions fields_mentions perhaps_mentions declarators_mentions start_mentions stmt_mentions stmt_form_mentions stmts_mentions item_mentions unresolved_mentions found found_var functions_of repeated blocked look_up mentions assigned_in captures holdings vars_of slot_count slots_of constants_of functions_in fault_at name_fault named_at code_at around_of body_of expr_piece expr_parts form_parts exprs_piece arguments_piece fields_piece perhaps_piece declarators_piece start_piece stmt_piece stmt_parts stmts_piece item_piece items_piece program_of_tree resolved
 a_slot_of_the_top_level = refl
 
 -- x: no program
 pub no_program : resolved (t.statement (spot 0 1) (does (uses (codes "x") 0)) ∷ []) ≡ None
-unfolding program_scope function_scope block_scope for_three_scope list_scope for_of_scope expr_sites form_sites exprs_sites fields_sites perhaps_sites declarators_sites start_sites stmt_sites stmt_form_sites stmts_sites item_sites program_sites found found_var functions_of repeated blocked see places assigned_in captures holdings vars_of slot_count slots_of constants_of functions_in fault_at name_fault named_at code_at around_of body_of expr_piece expr_parts form_parts exprs_piece arguments_piece fields_piece perhaps_piece declarators_piece start_piece stmt_piece stmt_parts stmts_piece item_piece items_piece program_of_tree resolved
+unfolding program_scope function_scope block_scope for_three_scope list_scope for_of_scope expr_mentions form_mentions exprs_mentions fields_mentions perhaps_mentions declarators_mentions start_mentions stmt_mentions stmt_form_mentions stmts_mentions item_mentions unresolved_mentions found found_var functions_of repeated blocked look_up mentions assigned_in captures holdings vars_of slot_count slots_of constants_of functions_in fault_at name_fault named_at code_at around_of body_of expr_piece expr_parts form_parts exprs_piece arguments_piece fields_piece perhaps_piece declarators_piece start_piece stmt_piece stmt_parts stmts_piece item_piece items_piece program_of_tree resolved
 no_program = refl

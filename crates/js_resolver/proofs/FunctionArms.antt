@@ -20,7 +20,7 @@ use Rattle.js_program.specs.declared.node.NodeForm.TheVariants as N
 use Rattle.js_program.specs.PlainProgram as n
 use Rattle.js_program.specs.PlainProgram.{PlainBody, PlainContent}
 use Rattle.js_program.specs.Views.{plain_body, plain_node}
-use Rattle.js_names.specs.Places.{Place}
+use Rattle.js_names.specs.Mentions.{Mention}
 use Rattle.js_resolver.specs.declared.emitter.Emitter.{Emitter}
 use Rattle.js_resolver.specs.Variables.{body_of, code_at}
 use Rattle.js_resolver.specs.Pieces.{Piece, function_piece, one_value}
@@ -47,7 +47,7 @@ on_puts_body (Err y) a b place body plain e h k = tt
 on_puts_body (Ok y) a b place body plain e h k = puts_body a b place body plain e h k
 
 -- a function whose statements or value were emitted
-pub function_adds : (ps : List Place) (a b c : Emitter) (place : ℕ) (spot : Spot) (names : List Name) (ns : List ℕ) (content : List ℕ → PlainContent) (x : Piece) → place ≡ length a.functions.items → Emits a b ns x
+pub function_adds : (ps : List Mention) (a b c : Emitter) (place : ℕ) (spot : Spot) (names : List Name) (ns : List ℕ) (content : List ℕ → PlainContent) (x : Piece) → place ≡ length a.functions.items → Emits a b ns x
     → PutsBody b c place (body_of ps spot.at (length names) (content ns) spot.line) → Adds a c (function_piece ps spot names content x)
 function_adds ps a b c place spot names ns content x e h k =
     let body = body_of ps spot.at (length names) (content ns) spot.line in
@@ -61,18 +61,18 @@ function_adds ps a b c place spot names ns content x e h k =
           ∙ ap (λ z. functions_of a ++ body_of ps spot.at (length names) (content z) spot.line ∷ x.functions) h.parts)));
     }
 
-pub on_function_adds : {A E : Type 0} (r : Result A E) (ps : List Place) (a b c : Emitter) (place : ℕ) (spot : Spot) (names : List Name) (ns : List ℕ) (content : List ℕ → PlainContent) (x : Piece) → place ≡ length a.functions.items → Emits a b ns x
+pub on_function_adds : {A E : Type 0} (r : Result A E) (ps : List Mention) (a b c : Emitter) (place : ℕ) (spot : Spot) (names : List Name) (ns : List ℕ) (content : List ℕ → PlainContent) (x : Piece) → place ≡ length a.functions.items → Emits a b ns x
     → OnOk r (PutsBody b c place (body_of ps spot.at (length names) (content ns) spot.line)) → OnOk r (Adds a c (function_piece ps spot names content x))
 on_function_adds (Err y) ps a b c place spot names ns content x e h k = tt
 on_function_adds (Ok y) ps a b c place spot names ns content x e h k = function_adds ps a b c place spot names ns content x e h k
 
 -- the node that makes it
-pub function_form : (ps : List Place) (a b : Emitter) (spot : Spot) (names : List Name) (ss : PlainStmts) (code : ℕ) → code ≡ code_at ps spot.at → Adds a b (function_piece ps spot names n.statements (stmts_piece ps (count a) ss))
+pub function_form : (ps : List Mention) (a b : Emitter) (spot : Spot) (names : List Name) (ss : PlainStmts) (code : ℕ) → code ≡ code_at ps spot.at → Adds a b (function_piece ps spot names n.statements (stmts_piece ps (count a) ss))
     → FormsExpr ps a b (N.Function code) (p.function spot names ss)
 unfolding form_parts
 function_form ps a b spot names ss code e h = record { adds = h; form = ap (λ z. n.function z) e }
 
-pub arrow_form : (ps : List Place) (a b c : Emitter) (place : ℕ) (spot : Spot) (names : List Name) (x : Expr) (i code : ℕ) → place ≡ length a.functions.items → Emits a b (i ∷ []) (expr_piece ps (count a) (plain_expr x))
+pub arrow_form : (ps : List Mention) (a b c : Emitter) (place : ℕ) (spot : Spot) (names : List Name) (x : Expr) (i code : ℕ) → place ≡ length a.functions.items → Emits a b (i ∷ []) (expr_piece ps (count a) (plain_expr x))
     → PutsBody b c place (body_of ps spot.at (length names) (n.one_value i) spot.line) → code ≡ code_at ps spot.at → FormsExpr ps a c (N.Function code) (p.arrow_value spot names (plain_expr x))
 unfolding form_parts
 arrow_form ps a b c place spot names x i code e h k q = record {
@@ -82,12 +82,12 @@ arrow_form ps a b c place spot names x i code e h k q = record {
 
 -- what a program lists
 
-pub statement_item : (ps : List Place) (a b : Emitter) (i : Item) (spot : Spot) (x : Stmt) (ms ks : List ℕ) (k : ℕ) → i ≡ Statement spot x → Emits a b (k ∷ []) (stmt_piece ps (count a) (plain_stmt x)) → ks ≡ ms ++ k ∷ []
+pub statement_item : (ps : List Mention) (a b : Emitter) (i : Item) (spot : Spot) (x : Stmt) (ms ks : List ℕ) (k : ℕ) → i ≡ Statement spot x → Emits a b (k ∷ []) (stmt_piece ps (count a) (plain_stmt x)) → ks ≡ ms ++ k ∷ []
     → EmitsMore a b ms ks (item_piece ps (count a) (plain_item i))
 unfolding item_piece
 statement_item ps a b i spot x ms ks k h e q = subst (λ z. EmitsMore a b ms ks (item_piece ps (count a) (plain_item z))) (sym h) (record { adds = e.adds; more = q ∙ ap (λ z. ms ++ z) e.parts })
 
-pub function_item : {A E : Type 0} (r : Result A E) (ps : List Place) (a b : Emitter) (i : Item) (spot : Spot) (name : Name) (v : Vec Name Global) (u : Vec Stmt Global) (names : List Name) (ss : List Stmt) (ms : List ℕ) → i ≡ Function spot name v u → names ≡ v.items → ss ≡ u.items
+pub function_item : {A E : Type 0} (r : Result A E) (ps : List Mention) (a b : Emitter) (i : Item) (spot : Spot) (name : Name) (v : Vec Name Global) (u : Vec Stmt Global) (names : List Name) (ss : List Stmt) (ms : List ℕ) → i ≡ Function spot name v u → names ≡ v.items → ss ≡ u.items
     → OnOk r (Adds a b (function_piece ps spot names n.statements (stmts_piece ps (count a) (stmts_of (map plain_stmt ss))))) → OnOk r (EmitsMore a b ms ms (item_piece ps (count a) (plain_item i)))
 unfolding item_piece
 function_item (Err y) ps a b i spot name v u names ss ms h d e k = tt

@@ -14,7 +14,7 @@ use Rattle.js_program.specs.declared.node.Declared.{Declared}
 use Rattle.js_program.specs.declared.node.Variable.{Variable}
 use Rattle.js_program.specs.PlainProgram.{PlainDeclared}
 use Rattle.js_program.specs.Views.{plain_declared}
-use Rattle.js_names.specs.Places.{Place}
+use Rattle.js_names.specs.Mentions.{Mention}
 use Rattle.js_names.specs.Entries.{is_present}
 use Rattle.js_resolver.specs.declared.emitter.Emitter.{Emitter}
 use Rattle.js_resolver.specs.Variables.{named_at}
@@ -43,7 +43,7 @@ remains_more f a b c ms ns ks x w h k e p = record {
   parts = numbers_more f b c ms ns ks w.parts x h.parts e p k;
 }
 
-pub exprs_more : (ps : List Place) (xs : List Expr) (i : ℕ) (d x : Expr) (a b c : Emitter) (ms ks : List ℕ) (n : ℕ) (w : Piece) → i < length xs → x ≡ get_or xs i d
+pub exprs_more : (ps : List Mention) (xs : List Expr) (i : ℕ) (d x : Expr) (a b c : Emitter) (ms ks : List ℕ) (n : ℕ) (w : Piece) → i < length xs → x ≡ get_or xs i d
     → Remains a b ms (exprs_piece ps (count b) (exprs_of (map plain_expr (drop i xs)))) w → Emits b c (n ∷ []) (expr_piece ps (count b) (plain_expr x)) → ks ≡ ms ++ n ∷ []
     → Remains a c ks (exprs_piece ps (count c) (exprs_of (map plain_expr (drop (i + 1) xs)))) w
 unfolding exprs_piece
@@ -51,7 +51,7 @@ exprs_more ps xs i d x a b c ms ks n w h e r k q =
     remains_more (λ m. exprs_piece ps m (exprs_of (map plain_expr (drop (i + 1) xs)))) a b c ms (n ∷ []) ks (expr_piece ps (count b) (plain_expr x)) w
     (subst (λ z. Remains a b ms (exprs_piece ps (count b) (exprs_of (map plain_expr z))) w) (drop_at xs i d x h e) r) k.adds q k.parts
 
-pub stmts_more : (ps : List Place) (xs : List Stmt) (i : ℕ) (d x : Stmt) (a b c : Emitter) (ms ks : List ℕ) (n : ℕ) (w : Piece) → i < length xs → x ≡ get_or xs i d
+pub stmts_more : (ps : List Mention) (xs : List Stmt) (i : ℕ) (d x : Stmt) (a b c : Emitter) (ms ks : List ℕ) (n : ℕ) (w : Piece) → i < length xs → x ≡ get_or xs i d
     → Remains a b ms (stmts_piece ps (count b) (stmts_of (map plain_stmt (drop i xs)))) w → Emits b c (n ∷ []) (stmt_piece ps (count b) (plain_stmt x)) → ks ≡ ms ++ n ∷ []
     → Remains a c ks (stmts_piece ps (count c) (stmts_of (map plain_stmt (drop (i + 1) xs)))) w
 unfolding stmts_piece
@@ -59,7 +59,7 @@ stmts_more ps xs i d x a b c ms ks n w h e r k q =
     remains_more (λ m. stmts_piece ps m (stmts_of (map plain_stmt (drop (i + 1) xs)))) a b c ms (n ∷ []) ks (stmt_piece ps (count b) (plain_stmt x)) w
     (subst (λ z. Remains a b ms (stmts_piece ps (count b) (stmts_of (map plain_stmt z))) w) (drop_at xs i d x h e) r) k.adds q k.parts
 
-pub items_more : (ps : List Place) (xs : List Item) (i : ℕ) (d x : Item) (a b c : Emitter) (ms ks : List ℕ) (w : Piece) → i < length xs → x ≡ get_or xs i d
+pub items_more : (ps : List Mention) (xs : List Item) (i : ℕ) (d x : Item) (a b c : Emitter) (ms ks : List ℕ) (w : Piece) → i < length xs → x ≡ get_or xs i d
     → Remains a b ms (items_piece ps (count b) (map plain_item (drop i xs))) w → EmitsMore b c ms ks (item_piece ps (count b) (plain_item x))
     → Remains a c ks (items_piece ps (count c) (map plain_item (drop (i + 1) xs))) w
 unfolding items_piece
@@ -73,7 +73,7 @@ field_next : (xs : List Field) (i : ℕ) (d x : Field) → i < length xs → x �
 field_next xs i d x h e =
     ap (λ z. fields_of (map plain_field z)) (drop_at xs i d x h e) ∙ ap (λ (z : PlainField). field_in z.key z.value (fields_of (map plain_field (drop (i + 1) xs)))) (field_is x)
 
-pub fields_more : (ps : List Place) (xs : List Field) (i : ℕ) (d x : Field) (a b c : Emitter) (ms ks : List ℕ) (n : ℕ) (w : Piece) → i < length xs → x ≡ get_or xs i d
+pub fields_more : (ps : List Mention) (xs : List Field) (i : ℕ) (d x : Field) (a b c : Emitter) (ms ks : List ℕ) (n : ℕ) (w : Piece) → i < length xs → x ≡ get_or xs i d
     → Remains a b ms (fields_piece ps (count b) (fields_of (map plain_field (drop i xs)))) w → Emits b c (n ∷ []) (expr_piece ps (count b) (plain_expr x.value)) → ks ≡ ms ++ n ∷ []
     → Remains a c ks (fields_piece ps (count c) (fields_of (map plain_field (drop (i + 1) xs)))) w
 unfolding fields_piece
@@ -81,7 +81,7 @@ fields_more ps xs i d x a b c ms ks n w h e r k q =
     remains_more (λ m. fields_piece ps m (fields_of (map plain_field (drop (i + 1) xs)))) a b c ms (n ∷ []) ks (expr_piece ps (count b) (plain_expr x.value)) w
     (subst (λ z. Remains a b ms (fields_piece ps (count b) z) w) (field_next xs i d x h e) r) k.adds q k.parts
 
-pub fields_done : (ps : List Place) (a b : Emitter) (ns : List ℕ) (rest : List Field) (w : Piece) → rest ≡ [] → Remains a b ns (fields_piece ps (count b) (fields_of (map plain_field rest))) w → Emits a b ns w
+pub fields_done : (ps : List Mention) (a b : Emitter) (ns : List ℕ) (rest : List Field) (w : Piece) → rest ≡ [] → Remains a b ns (fields_piece ps (count b) (fields_of (map plain_field rest))) w → Emits a b ns w
 unfolding fields_piece
 fields_done ps a b ns rest w e r = remains_none a b ns w (subst (λ z. Remains a b ns (fields_piece ps (count b) (fields_of (map plain_field z))) w) e r)
 
@@ -107,12 +107,12 @@ after_is : (o : Option ℕ) (b : Bool) (ns : List ℕ) → is_some o ≡ b → p
 after_is None b ns e = subst (λ z. parts_after z ns ≡ ns) e refl
 after_is (Some n) b ns e = subst (λ z. parts_after z (n ∷ ns) ≡ ns) e refl
 
-pub record RemainsDeclarators (ps : List Place) (start now : Emitter) (declared : List Declared) (rest all : List Declarator) : Type 0 where
+pub record RemainsDeclarators (ps : List Mention) (start now : Emitter) (declared : List Declared) (rest all : List Declarator) : Type 0 where
   pub leaves : Leaves start now (declarators_piece ps (count now) (declarators_of (map plain_declarator rest))) (declarators_piece ps (count start) (declarators_of (map plain_declarator all)))
   pub declared_are : map plain_declared declared ++ declared_of ps (declarators_of (map plain_declarator rest)) (declarators_piece ps (count now) (declarators_of (map plain_declarator rest))).parts
       ≡ declared_of ps (declarators_of (map plain_declarator all)) (declarators_piece ps (count start) (declarators_of (map plain_declarator all))).parts
 
-pub declarators_more : (ps : List Place) (xs : List Declarator) (i : ℕ) (d x : Declarator) (a b c : Emitter) (ms ks : List Declared) (m : Declared) → i < length xs → x ≡ get_or xs i d
+pub declarators_more : (ps : List Mention) (xs : List Declarator) (i : ℕ) (d x : Declarator) (a b c : Emitter) (ms ks : List Declared) (m : Declared) → i < length xs → x ≡ get_or xs i d
     → RemainsDeclarators ps a b ms (drop i xs) xs → EmitsPerhaps b c m.value (is_present (tree_perhaps (out-Declarator x).value)) (perhaps_piece ps (count b) (tree_perhaps (out-Declarator x).value))
     → m.variable ≡ named_at ps (out-Declarator x).name.spot.at → ks ≡ ms ++ m ∷ []
     → RemainsDeclarators ps a c ks (drop (i + 1) xs) xs
@@ -146,13 +146,13 @@ declarators_more ps xs i d x a b c ms ks m h e r k v q =
           ∙ (ap (λ z. map plain_declared ms ++ z) one ∙ p))));
     }
 
-pub declarators_all : (ps : List Place) (a : Emitter) (ms : List Declared) (xs : List Declarator) → ms ≡ [] → RemainsDeclarators ps a a ms xs xs
+pub declarators_all : (ps : List Mention) (a : Emitter) (ms : List Declared) (xs : List Declarator) → ms ≡ [] → RemainsDeclarators ps a a ms xs xs
 declarators_all ps a ms xs e = record {
   leaves = leaves_all a (declarators_piece ps (count a) (declarators_of (map plain_declarator xs)));
   declared_are = ap (λ z. map plain_declared z ++ declared_of ps (declarators_of (map plain_declarator xs)) (declarators_piece ps (count a) (declarators_of (map plain_declarator xs))).parts) e;
 }
 
-pub declarators_none : (ps : List Place) (a b : Emitter) (ms : List Declared) (rest xs : List Declarator) → rest ≡ [] → RemainsDeclarators ps a b ms rest xs → EmitsDeclarators ps a b ms xs
+pub declarators_none : (ps : List Mention) (a b : Emitter) (ms : List Declared) (rest xs : List Declarator) → rest ≡ [] → RemainsDeclarators ps a b ms rest xs → EmitsDeclarators ps a b ms xs
 unfolding declarators_piece
 declarators_none ps a b ms rest xs e r =
     let h : RemainsDeclarators ps a b ms [] xs = subst (λ z. RemainsDeclarators ps a b ms z xs) e r in
@@ -160,14 +160,14 @@ declarators_none ps a b ms rest xs e r =
 
 -- the ends of the loops
 
-pub exprs_done : (ps : List Place) (a b : Emitter) (ns : List ℕ) (rest : List Expr) (w : Piece) → rest ≡ [] → Remains a b ns (exprs_piece ps (count b) (exprs_of (map plain_expr rest))) w → Emits a b ns w
+pub exprs_done : (ps : List Mention) (a b : Emitter) (ns : List ℕ) (rest : List Expr) (w : Piece) → rest ≡ [] → Remains a b ns (exprs_piece ps (count b) (exprs_of (map plain_expr rest))) w → Emits a b ns w
 unfolding exprs_piece
 exprs_done ps a b ns rest w e r = remains_none a b ns w (subst (λ z. Remains a b ns (exprs_piece ps (count b) (exprs_of (map plain_expr z))) w) e r)
 
-pub stmts_done : (ps : List Place) (a b : Emitter) (ns : List ℕ) (rest : List Stmt) (w : Piece) → rest ≡ [] → Remains a b ns (stmts_piece ps (count b) (stmts_of (map plain_stmt rest))) w → Emits a b ns w
+pub stmts_done : (ps : List Mention) (a b : Emitter) (ns : List ℕ) (rest : List Stmt) (w : Piece) → rest ≡ [] → Remains a b ns (stmts_piece ps (count b) (stmts_of (map plain_stmt rest))) w → Emits a b ns w
 unfolding stmts_piece
 stmts_done ps a b ns rest w e r = remains_none a b ns w (subst (λ z. Remains a b ns (stmts_piece ps (count b) (stmts_of (map plain_stmt z))) w) e r)
 
-pub items_done : (ps : List Place) (a b : Emitter) (ns : List ℕ) (rest : List Item) (w : Piece) → rest ≡ [] → Remains a b ns (items_piece ps (count b) (map plain_item rest)) w → Emits a b ns w
+pub items_done : (ps : List Mention) (a b : Emitter) (ns : List ℕ) (rest : List Item) (w : Piece) → rest ≡ [] → Remains a b ns (items_piece ps (count b) (map plain_item rest)) w → Emits a b ns w
 unfolding items_piece
 items_done ps a b ns rest w e r = remains_none a b ns w (subst (λ z. Remains a b ns (items_piece ps (count b) (map plain_item z)) w) e r)

@@ -1,13 +1,13 @@
--- The program that parts are which are made from the places of a tree.
+-- The program that parts are which are made from the mentions of a tree.
 use Rattle.std.proofs.Common.{◌≡◌, List, ◌∙◌, ap, sym, Some, None}
 use Rattle.js_tree.specs.Plain.{PlainItem}
 use Rattle.js_program.specs.PlainProgram.{PlainProgram}
-use Rattle.js_names.specs.Places.{Place, places}
+use Rattle.js_names.specs.Mentions.{Mention, mentions}
 use Rattle.js_names.specs.Rules.{name_fault}
 use Rattle.js_resolver.specs.Resolved.{program_from, program_of_tree, resolved, unless_fault}
 
--- from items and places that are those of the tree
-pub tree_program : (items tree : List PlainItem) (ps : List Place) → items ≡ tree → ps ≡ places tree → program_from items ps ≡ program_of_tree tree
+-- from items and mentions that are those of the tree
+pub tree_program : (items tree : List PlainItem) (ps : List Mention) → items ≡ tree → ps ≡ mentions tree → program_from items ps ≡ program_of_tree tree
 unfolding program_of_tree
 tree_program items tree ps e h = ap (λ z. program_from z ps) e ∙ ap (program_from tree) h
 

@@ -1,18 +1,18 @@
--- Tables that stand for the places of a program, from what they are made of.
+-- Tables that stand for the mentions of a program, from what they are made of.
 use Rattle.std.proofs.Common.{◌≡◌, ℕ, List, ◌∙◌, ap, nat_eq}
 use Rattle.std.specs.Prelude.{unwrap_or}
 use Rattle.indexmap.specs.IndexMap.{get}
 use Rattle.js_program.specs.declared.node.Variable.{Variable}
 use Rattle.js_program.specs.declared.node.Variable.TheVariants.{Slot}
 use Rattle.js_names.specs.Entries.{top}
-use Rattle.js_names.specs.Places.{Place}
+use Rattle.js_names.specs.Mentions.{Mention}
 use Rattle.js_names.specs.Slots.{assigned_in, slots_of, captures, vars_of, constants_of, functions_in}
 use Rattle.js_names.specs.Held.{Sets, held_in}
 use Rattle.js_resolver.specs.inner.Tables.{Known}
 use Rattle.js_resolver.specs.Variables.{named_there, around_there, name_key, owner_key, known_in, named_at, code_at, around_of, index_in}
 use Rattle.js_resolver.specs.inner.TablesOf.{AreTablesOf}
 
-pub stands : (variables : Known Variable) (declared functions assigned : List ℕ) (outer : Known ℕ) (held copied unset : Sets) (ps : List Place)
+pub stands : (variables : Known Variable) (declared functions assigned : List ℕ) (outer : Known ℕ) (held copied unset : Sets) (ps : List Mention)
     → assigned ≡ assigned_in ps
     → ((q : ℕ) → get nat_eq variables q ≡ known_in name_key (named_there assigned declared (λ f. held_in held f)) q ps)
     → declared ≡ constants_of assigned ps

@@ -8,7 +8,7 @@ pub mod Lists
 pub mod Nodes
 pub mod Order
 pub mod Parts
-pub mod Places
+pub mod Mentions
 pub mod Program
 pub mod Resolved
 pub mod Room

@@ -9,7 +9,7 @@ use Rattle.js_program.specs.PlainProgram as n
 use Rattle.js_program.specs.PlainProgram.{PlainNodeForm, PlainDeclared}
 use Rattle.js_names.specs.Entries.{Entry, own_of_all, own_of_start, is_present}
 use Rattle.js_names.specs.Forms.{called_builtin, value_builtin, is_undefined}
-use Rattle.js_names.specs.Places.{Place}
+use Rattle.js_names.specs.Mentions.{Mention}
 use Rattle.js_resolver.specs.Variables.{named_at, slot_at, code_at}
 use Rattle.js_resolver.specs.Pieces.{part}
 
@@ -54,7 +54,7 @@ keys_of t.no_fields = []
 keys_of (t.field_in key e fs) = key ∷ keys_of fs
 
 -- the form of a node, from the numbers of its parts in the order in which they begin
-abbrev pub expr_node : List Place → PlainForm → List ℕ → PlainNodeForm
+abbrev pub expr_node : List Mention → PlainForm → List ℕ → PlainNodeForm
 expr_node ps (t.number i) parts = n.number i
 expr_node ps (t.text text) parts = n.text text
 expr_node ps (t.truth b) parts = n.truth b
@@ -77,8 +77,8 @@ expr_node ps (t.arrow_block spot names ss) parts = n.function (code_at ps spot.a
 expr_node ps (t.function spot names ss) parts = n.function (code_at ps spot.at)
 
 -- the slots of a block's variables, which are not declared yet as it begins
-abbrev pub fresh : List Place → List Entry → List ℕ
-fresh ps entries = map (λ (e : Entry). slot_at ps e.declared.place) entries
+abbrev pub fresh : List Mention → List Entry → List ℕ
+fresh ps entries = map (λ (e : Entry). slot_at ps e.declared.offset) entries
 
 -- a part that may be absent, and the parts after it
 abbrev pub perhaps_part : Bool → List ℕ → Option ℕ
@@ -89,7 +89,7 @@ abbrev pub parts_after : Bool → List ℕ → List ℕ
 parts_after false parts = parts
 parts_after true parts = drop 1 parts
 
-abbrev pub declared_of : List Place → PlainDeclarators → List ℕ → List PlainDeclared
+abbrev pub declared_of : List Mention → PlainDeclarators → List ℕ → List PlainDeclared
 declared_of ps t.no_declarators parts = []
 declared_of ps (t.declarator_in name value end ds) parts =
     record { variable = named_at ps name.spot.at; value = perhaps_part (is_present value) parts }
@@ -107,7 +107,7 @@ for_node slots start test next parts =
     n.for_three slots (perhaps_part start parts) (perhaps_part test later) (perhaps_part next last)
     (part 0 (parts_after next last))
 
-abbrev pub stmt_node : List Place → PlainStmtForm → List ℕ → PlainNodeForm
+abbrev pub stmt_node : List Mention → PlainStmtForm → List ℕ → PlainNodeForm
 stmt_node ps t.empty parts = n.empty
 stmt_node ps (t.block ss) parts = n.block (fresh ps (own_of_all 0 false ss)) parts
 stmt_node ps (t.declaration kind ds) parts = n.declaration kind (declared_of ps ds parts)

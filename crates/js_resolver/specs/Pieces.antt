@@ -4,7 +4,7 @@ use Rattle.js_tree.specs.declared.tree.Name.{Name}
 use Rattle.js_tree.specs.declared.tree.Spot.{Spot}
 use Rattle.js_program.specs.PlainProgram as n
 use Rattle.js_program.specs.PlainProgram.{PlainNode, PlainNodeForm, PlainBody, PlainContent}
-use Rattle.js_names.specs.Places.{Place}
+use Rattle.js_names.specs.Mentions.{Mention}
 use Rattle.js_resolver.specs.Variables.{body_of}
 
 -- the nodes of some forms that stand one after the other, the functions in them, and the forms' own numbers
@@ -40,7 +40,8 @@ abbrev pub part : ℕ → List ℕ → ℕ
 part k parts = get_or parts k 0
 
 -- a function, whose statements are not parts of it
-abbrev pub function_piece : List Place → Spot → List Name → (List ℕ → PlainContent) → Piece → Piece
+abbrev pub function_piece :
+    List Mention → Spot → List Name → (List ℕ → PlainContent) → Piece → Piece
 function_piece ps spot names content x = record {
   nodes = x.nodes;
   functions = body_of ps spot.at (length names) (content x.parts) spot.line ∷ x.functions;

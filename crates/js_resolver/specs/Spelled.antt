@@ -6,7 +6,7 @@ use Rattle.js_tree.specs.declared.limits.TheConstants.{MOST_NESTING}
 use Rattle.js_tree.specs.Plain.{PlainItem}
 use Rattle.js_grammar.specs.Trees.{IsTree}
 
--- the place of the first token, or the end where there is none
+-- the offset of the first token, or the end where there is none
 abbrev pub next : ℕ → List Token → ℕ
 next end [] = end
 next end (t ∷ ts) = t.from
@@ -16,7 +16,7 @@ abbrev pub InOrder : ℕ → List Token → Type 0
 InOrder end [] = Unit {0}
 InOrder end (t ∷ ts) = (t.from < next end ts) × InOrder end ts
 
--- tokens in order, of which the places of a text allow no more, spell the tree, which is not nested too deep
+-- tokens in order, of which the offsets of a text allow no more, spell the tree, which is not nested too deep
 pub record IsSpelled (items : List PlainItem) : Type 0 where
   pub tokens : List Token
   pub order : InOrder MOST_BYTES tokens

@@ -3,15 +3,15 @@ ghost use Rattle.std.specs.Prelude.{◌≡◌, IfOk, OnOk, Some, None, map, nat_
 ghost use Rattle.js_tree.specs.Views.{plain_item};
 ghost use Rattle.js_program.specs.PlainProgram.{undeclared, unset};
 ghost use Rattle.js_program.specs.Views.{plain_constant};
-ghost use Rattle.js_names.specs.Places.{is_var};
+ghost use Rattle.js_names.specs.Mentions.{is_var};
 ghost use Rattle.js_names.specs.Slots.{assigned_in, constants_of};
-ghost use Rattle.js_names.specs.Views.{place_of};
+ghost use Rattle.js_names.specs.Views.{mention_of};
 ghost use Rattle.js_resolver.specs.Resolved.{constant_of, constant_there, function_named};
 ghost use Rattle.js_resolver.specs.inner.Starts.{NotesStart, first_of, start_in};
 
 use crate::name_tables::NameTables;
 use indexmap::IndexMap;
-use js_names::{Role, Seen};
+use js_names::{Mention, Role};
 use js_program::ConstantStart;
 use js_tree::Item;
 use std::alloc::{AllocError, Global};
@@ -41,24 +41,30 @@ fn before(role: Role) -> ConstantStart
     }
 }
 
-/// Notes what a place says of the variable that it names.
-fn note_place(starts: &mut IndexMap<u32, ConstantStart>, place: &Seen) -> Result<(), AllocError>
+/// Notes what a mention says of the variable that it names.
+fn note_mention(
+    starts: &mut IndexMap<u32, ConstantStart>,
+    mention: &Mention,
+) -> Result<(), AllocError>
     ensures { OnOk result (NotesStart starts.old starts.new
-        (λ q. constant_there q (place_of place.now).declared)) }
+        (λ q. constant_there q (mention_of mention.now).declared)) }
 {
-    match place.declared {
-        Some(declared) => note_start(starts, declared.place, before(declared.role)),
+    match mention.declared {
+        Some(declared) => note_start(starts, declared.offset, before(declared.role)),
         None => Ok(()),
     }
 }
 
-/// Notes what all places say.
-fn note_places(starts: &mut IndexMap<u32, ConstantStart>, places: &[Seen]) -> Result<(), AllocError>
+/// Notes what all mentions say.
+fn note_mentions(
+    starts: &mut IndexMap<u32, ConstantStart>,
+    mentions: &[Mention],
+) -> Result<(), AllocError>
     ensures { OnOk result (NotesStart starts.old starts.new
-        (λ q. first_of (map (λ p. constant_there q (place_of p).declared) places.now))) }
+        (λ q. first_of (map (λ p. constant_there q (mention_of p).declared) mentions.now))) }
 {
-    for place in places {
-        note_place(starts, place)?;
+    for mention in mentions {
+        note_mention(starts, mention)?;
     }
     Ok(())
 }
@@ -134,6 +140,6 @@ pub fn constant_starts(
 {
     let mut starts = IndexMap::new(alloc);
     note_items(tables, &mut starts, items)?;
-    note_places(&mut starts, tables.places())?;
+    note_mentions(&mut starts, tables.mentions())?;
     starts_of(alloc, &starts, tables.constants())
 }

@@ -3,16 +3,16 @@ ghost use Rattle.std.specs.Prelude.{◌≡◌, IfOk, map, length, nat_eq};
 ghost use Rattle.indexmap.specs.IndexMap.{get};
 ghost use Rattle.js_program.specs.Views.{plain_body, plain_content};
 ghost use Rattle.js_names.specs.Slots.{assigned_in, captures, constants_of, functions_in, slots_of, vars_of};
-ghost use Rattle.js_names.specs.Views.{place_of};
+ghost use Rattle.js_names.specs.Views.{mention_of};
 ghost use Rattle.js_names.specs.Held.{held_in};
 ghost use Rattle.js_resolver.specs.Variables.{first_line};
 ghost use Rattle.js_resolver.specs.Variables.{around_of, around_there, body_of, capture_slots, code_at, known_in, name_key, named_at, named_there, owner_key, slot_at, var_slots};
 
 use crate::tables::{
-    constants_of, functions_around, functions_in, index_in, named_places, slots_among,
+    constants_of, functions_around, functions_in, index_in, slots_among, variables_by_offset,
 };
 use indexmap::{IndexMap, IndexSet};
-use js_names::{Names, Seen, TOP, captured, slot_count, vars};
+use js_names::{Mention, Names, TOP, captured, slot_count, vars};
 use js_program::{Body, Content, Variable};
 use std::alloc::{AllocError, Global};
 use std::marker::Model;
@@ -21,7 +21,7 @@ use std::marker::Model;
 pub struct Meanings {
     /// The constants, in the order of their numbers.
     pub constants: IndexSet<u32>,
-    /// What the name at each place of the text stands for.
+    /// What the name at each offset of the text stands for.
     pub variables: IndexMap<u32, Variable>,
 }
 
@@ -62,9 +62,9 @@ pub struct Holdings {
     pub vars: IndexMap<u32, IndexSet<u32>>,
 }
 
-/// The places of a program, with tables of what stands there. Contracts see the places.
+/// The mentions of a program, with tables of what stands there. Contracts see the mentions.
 pub struct NameTables {
-    /// The places, and the variables of each function in the order of their slots.
+    /// The mentions, and the variables of each function in the order of their slots.
     names: Names,
     meanings: Meanings,
     functions: Functions,
@@ -85,17 +85,17 @@ impl Drop for NameTables {
 
 impl Model for NameTables {
     ghost use Rattle.std.specs.Prelude.{List, map};
-    ghost use Rattle.js_names.specs.Places.{Place};
-    ghost use Rattle.js_names.specs.Views.{place_of};
+    ghost use Rattle.js_names.specs.Mentions.{Mention};
+    ghost use Rattle.js_names.specs.Views.{mention_of};
     ghost use Rattle.js_resolver.specs.inner.TablesOf.{AreTablesOf};
 
-    ghost Value = { List Place };
+    ghost Value = { List Mention };
 
-    ghost view = { λ t. map place_of t.names.places.items };
+    ghost view = { λ t. map mention_of t.names.mentions.items };
 
     ghost invariant = { λ t. AreTablesOf t.meanings.variables t.meanings.constants.keys
         t.functions.codes.keys t.functions.around t.names.slots t.holdings.captured t.holdings.vars
-        (map place_of t.names.places.items) };
+        (map mention_of t.names.mentions.items) };
 }
 
 /// What a call of a function has room for.
@@ -117,21 +117,21 @@ fn counted(number: usize) -> Result<u32, AllocError>
     Ok(number as u32)
 }
 
-/// The constants, and what the name at each place of the text stands for.
+/// The constants, and what the name at each offset of the text stands for.
 fn meanings_of(
     alloc: Global,
     assigned: &IndexSet<u32>,
     slots: &IndexMap<u32, IndexSet<u32>>,
-    places: &[Seen],
+    mentions: &[Mention],
 ) -> Result<Meanings, AllocError>
     ensures constants { IfOk result (λ t. t.constants.keys
-        ≡ constants_of assigned.now.keys (map place_of places.now)) }
+        ≡ constants_of assigned.now.keys (map mention_of mentions.now)) }
     ensures variables { IfOk result (λ t. (q : _) → get nat_eq t.variables q ≡ known_in name_key
         (named_there assigned.now.keys t.constants.keys (λ f. held_in slots.now f)) q
-        (map place_of places.now)) }
+        (map mention_of mentions.now)) }
 {
-    let constants = constants_of(alloc, assigned, places)?;
-    let variables = named_places(alloc, assigned, &constants, slots, places)?;
+    let constants = constants_of(alloc, assigned, mentions)?;
+    let variables = variables_by_offset(alloc, assigned, &constants, slots, mentions)?;
     Ok(Meanings {
         constants,
         variables,
@@ -139,13 +139,13 @@ fn meanings_of(
 }
 
 /// The functions, and the function around each of them.
-fn functions_of(alloc: Global, places: &[Seen]) -> Result<Functions, AllocError>
-    ensures codes { IfOk result (λ t. t.codes.keys ≡ functions_in (map place_of places.now)) }
+fn functions_of(alloc: Global, mentions: &[Mention]) -> Result<Functions, AllocError>
+    ensures codes { IfOk result (λ t. t.codes.keys ≡ functions_in (map mention_of mentions.now)) }
     ensures around { IfOk result (λ t. (q : _) → get nat_eq t.around q
-        ≡ known_in owner_key around_there q (map place_of places.now)) }
+        ≡ known_in owner_key around_there q (map mention_of mentions.now)) }
 {
-    let codes = functions_in(alloc, places)?;
-    let around = functions_around(alloc, places)?;
+    let codes = functions_in(alloc, mentions)?;
+    let around = functions_around(alloc, mentions)?;
     Ok(Functions { codes, around })
 }
 
@@ -153,30 +153,31 @@ fn functions_of(alloc: Global, places: &[Seen]) -> Result<Functions, AllocError>
 fn holdings_of(
     alloc: Global,
     assigned: &IndexSet<u32>,
-    places: &[Seen],
+    mentions: &[Mention],
 ) -> Result<Holdings, AllocError>
     ensures captured { IfOk result (λ t. (f : _) → held_in t.captured f
-        ≡ captures assigned.now.keys f (map place_of places.now)) }
+        ≡ captures assigned.now.keys f (map mention_of mentions.now)) }
     ensures vars { IfOk result (λ t. (f : _) → held_in t.vars f
-        ≡ vars_of assigned.now.keys f (map place_of places.now)) }
+        ≡ vars_of assigned.now.keys f (map mention_of mentions.now)) }
 {
-    let captured = captured(alloc, assigned, places)?;
-    let vars = vars(alloc, assigned, places)?;
+    let captured = captured(alloc, assigned, mentions)?;
+    let vars = vars(alloc, assigned, mentions)?;
     Ok(Holdings { captured, vars })
 }
 
 impl NameTables {
-    /// The tables of the places that the check of names answers.
+    /// The tables of the mentions that the check of names answers.
     pub fn new(alloc: Global, names: Names) -> Result<NameTables, AllocError>
-        requires assigned { names.assigned.keys ≡ assigned_in (map place_of names.places.items) }
+        requires assigned { names.assigned.keys
+            ≡ assigned_in (map mention_of names.mentions.items) }
         requires slots { (f : _) → held_in names.slots f
-            ≡ slots_of (assigned_in (map place_of names.places.items)) f
-            (map place_of names.places.items) }
-        ensures { IfOk result (λ t. t ≡ map place_of names.places.items) }
+            ≡ slots_of (assigned_in (map mention_of names.mentions.items)) f
+            (map mention_of names.mentions.items) }
+        ensures { IfOk result (λ t. t ≡ map mention_of names.mentions.items) }
     {
-        let meanings = meanings_of(alloc, &names.assigned, &names.slots, &names.places)?;
-        let functions = functions_of(alloc, &names.places)?;
-        let holdings = holdings_of(alloc, &names.assigned, &names.places)?;
+        let meanings = meanings_of(alloc, &names.assigned, &names.slots, &names.mentions)?;
+        let functions = functions_of(alloc, &names.mentions)?;
+        let holdings = holdings_of(alloc, &names.assigned, &names.mentions)?;
         Ok(NameTables {
             names,
             meanings,
@@ -185,7 +186,7 @@ impl NameTables {
         })
     }
 
-    /// What the name at a place of the text stands for.
+    /// What the name at an offset of the text stands for.
     pub fn variable(&self, at: u32) -> Variable
         ensures { result ≡ named_at self.now at }
     {
@@ -195,7 +196,7 @@ impl NameTables {
         }
     }
 
-    /// The slot that the name at a place of the text stands for.
+    /// The slot that the name at an offset of the text stands for.
     pub fn slot(&self, at: u32) -> u32
         ensures { result ≡ slot_at self.now at }
     {
@@ -205,7 +206,7 @@ impl NameTables {
         }
     }
 
-    /// The number of the function that begins at a place of the text. Takes no memory; its only error is a
+    /// The number of the function that begins at an offset of the text. Takes no memory; its only error is a
     /// number past 32 bits.
     pub fn code(&self, at: u32) -> Result<u32, AllocError>
         ensures { IfOk result (λ n. n ≡ code_at self.now at) }
@@ -220,19 +221,19 @@ impl NameTables {
         self.meanings.constants.as_slice()
     }
 
-    /// The places, in text order.
-    pub fn places(&self) -> &[Seen]
-        ensures { map place_of result.now ≡ self.now }
+    /// The mentions, in text order.
+    pub fn mentions(&self) -> &[Mention]
+        ensures { map mention_of result.now ≡ self.now }
     {
-        &self.names.places
+        &self.names.mentions
     }
 
     /// The line of the first token of the program.
     pub fn line(&self) -> u32
         ensures { result ≡ first_line self.now }
     {
-        match self.names.places.first() {
-            Some(place) => place.name.spot.line,
+        match self.names.mentions.first() {
+            Some(mention) => mention.name.spot.line,
             None => 1,
         }
     }
@@ -300,7 +301,7 @@ impl NameTables {
         })
     }
 
-    /// The function that begins at a place of the text, with what a call of it runs.
+    /// The function that begins at an offset of the text, with what a call of it runs.
     pub fn body(
         &self,
         alloc: Global,

@@ -7,7 +7,7 @@ ghost use Rattle.js_program.specs.Views.{plain_body};
 ghost use Rattle.js_names.specs.Entries.{top};
 ghost use Rattle.js_names.specs.Rules.{name_fault};
 ghost use Rattle.js_names.specs.Slots.{assigned_in, slots_of};
-ghost use Rattle.js_names.specs.Views.{place_of};
+ghost use Rattle.js_names.specs.Views.{mention_of};
 ghost use Rattle.js_names.specs.Held.{held_in};
 ghost use Rattle.js_resolver.specs.inner.Emits.{Adds, count};
 ghost use Rattle.js_resolver.specs.Nodes.{items_piece};
@@ -81,24 +81,24 @@ fn program_of(parts: Parts) -> Program
     Program::new(parts.nodes, parts.functions, parts.constants, parts.top)
 }
 
-/// The program of these items, from what the check of names answers of their places.
+/// The program of these items, from what the check of names answers of their mentions.
 fn program_of_names(alloc: Global, names: Names, items: &[Item]) -> Result<Program, AllocError>
-    requires assigned { names.assigned.keys ≡ assigned_in (map place_of names.places.items) }
+    requires assigned { names.assigned.keys ≡ assigned_in (map mention_of names.mentions.items) }
     requires slots { (f : _) → held_in names.slots f
-        ≡ slots_of (assigned_in (map place_of names.places.items)) f
-        (map place_of names.places.items) }
+        ≡ slots_of (assigned_in (map mention_of names.mentions.items)) f
+        (map mention_of names.mentions.items) }
     requires sound { IsSound (program_from (map plain_item items.now)
-        (map place_of names.places.items)) }
+        (map mention_of names.mentions.items)) }
     ensures { IfOk result (λ p. p ≡ program_from (map plain_item items.now)
-        (map place_of names.places.items)) }
+        (map mention_of names.mentions.items)) }
 {
     let tables = NameTables::new(alloc, names)?;
     let parts = parts_of(alloc, &tables, items)?;
     Ok(program_of(parts))
 }
 
-/// The program of a tree that tokens spell, exactly where no place breaks a rule of names. Else the fault of the
-/// first place that breaks one. Takes memory for the places, their tables and the program.
+/// The program of a tree that tokens spell, exactly where no mention breaks a rule of names. Else the fault of the
+/// first mention that breaks one. Takes memory for the mentions, their tables and the program.
 ///
 /// # Errors
 ///

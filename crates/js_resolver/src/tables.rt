@@ -2,14 +2,14 @@
 ghost use Rattle.std.specs.Prelude.{◌≡◌, ◌++◌, ◌∷◌, [], IfOk, OnOk, map, nat_eq};
 ghost use Rattle.indexmap.specs.IndexMap.{get};
 ghost use Rattle.js_names.specs.Slots.{constant_at, constants_of, function_at, functions_in};
-ghost use Rattle.js_names.specs.Views.{place_of};
+ghost use Rattle.js_names.specs.Views.{mention_of};
 ghost use Rattle.js_names.specs.Held.{held_in};
 ghost use Rattle.js_resolver.specs.inner.Tables.{Notes};
 ghost use Rattle.js_names.specs.Entries.{top};
 ghost use Rattle.js_resolver.specs.Variables.{index_in, second, variable_with, named_there, around_there, name_key, owner_key, known_in, slots_among};
 
 use indexmap::{IndexMap, IndexSet};
-use js_names::{Declared, Seen, TOP, What, is_constant, variable_at};
+use js_names::{Declared, Mention, TOP, What, is_constant, variable_at};
 use js_program::Variable;
 use std::alloc::{AllocError, Global};
 
@@ -50,34 +50,35 @@ fn variable_with(
         (held_in held.now function) declared) }
 {
     if is_constant(assigned, declared) {
-        let number = index_in(constants, declared.place)?;
+        let number = index_in(constants, declared.offset)?;
         Ok(Variable::Constant(number))
     } else {
-        let slot = slot_in(held, function, declared.place)?;
+        let slot = slot_in(held, function, declared.offset)?;
         Ok(Variable::Slot(slot))
     }
 }
 
-/// What the name of a place stands for.
+/// What the name of a mention stands for.
 fn named_there(
     assigned: &IndexSet<u32>,
     constants: &IndexSet<u32>,
     held: &IndexMap<u32, IndexSet<u32>>,
-    place: &Seen,
+    mention: &Mention,
 ) -> Result<Option<Variable>, AllocError>
     ensures { IfOk result (λ v. v ≡ named_there assigned.now.keys constants.now.keys
-        (λ f. held_in held.now f) (place_of place.now)) }
+        (λ f. held_in held.now f) (mention_of mention.now)) }
 {
-    match place.declared {
+    match mention.declared {
         None => Ok(None),
         Some(declared) => {
-            let variable = variable_with(assigned, constants, held, place.around.owner, declared)?;
+            let function = mention.around.owner;
+            let variable = variable_with(assigned, constants, held, function, declared)?;
             Ok(Some(variable))
         }
     }
 }
 
-/// Notes what the name at a place of the text stands for, unless that is known.
+/// Notes what the name at an offset of the text stands for, unless that is known.
 fn note(
     named: &mut IndexMap<u32, Variable>,
     at: u32,
@@ -93,32 +94,32 @@ fn note(
     Ok(())
 }
 
-/// What the name at each place of the text stands for.
-pub fn named_places(
+/// What the name at each offset of the text stands for.
+pub fn variables_by_offset(
     alloc: Global,
     assigned: &IndexSet<u32>,
     constants: &IndexSet<u32>,
     held: &IndexMap<u32, IndexSet<u32>>,
-    places: &[Seen],
+    mentions: &[Mention],
 ) -> Result<IndexMap<u32, Variable>, AllocError>
     ensures { IfOk result (λ m. (q : _) → get nat_eq m q ≡ known_in name_key
         (named_there assigned.now.keys constants.now.keys (λ f. held_in held.now f)) q
-        (map place_of places.now)) }
+        (map mention_of mentions.now)) }
 {
     let mut named = IndexMap::new(alloc);
-    for place in places {
-        let variable = named_there(assigned, constants, held, place)?;
-        note(&mut named, place.name.spot.at, variable)?;
+    for mention in mentions {
+        let variable = named_there(assigned, constants, held, mention)?;
+        note(&mut named, mention.name.spot.at, variable)?;
     }
     Ok(named)
 }
 
-/// The constant that a place declares.
-fn constant_at(assigned: &IndexSet<u32>, place: &Seen) -> Option<u32>
-    ensures { result ≡ constant_at assigned.now.keys (place_of place.now) }
+/// The constant that a mention declares.
+fn constant_at(assigned: &IndexSet<u32>, mention: &Mention) -> Option<u32>
+    ensures { result ≡ constant_at assigned.now.keys (mention_of mention.now) }
 {
-    match variable_at(place) {
-        Some(declared) if is_constant(assigned, declared) => Some(declared.place),
+    match variable_at(mention) {
+        Some(declared) if is_constant(assigned, declared) => Some(declared.offset),
         _ => None,
     }
 }
@@ -127,29 +128,30 @@ fn constant_at(assigned: &IndexSet<u32>, place: &Seen) -> Option<u32>
 pub fn constants_of(
     alloc: Global,
     assigned: &IndexSet<u32>,
-    places: &[Seen],
+    mentions: &[Mention],
 ) -> Result<IndexSet<u32>, AllocError>
-    ensures { IfOk result (λ s. s.keys ≡ constants_of assigned.now.keys (map place_of places.now)) }
+    ensures { IfOk result (λ s. s.keys
+        ≡ constants_of assigned.now.keys (map mention_of mentions.now)) }
 {
     let mut constants = IndexSet::new(alloc);
-    for place in places {
-        if let Some(constant) = constant_at(assigned, place) {
+    for mention in mentions {
+        if let Some(constant) = constant_at(assigned, mention) {
             constants.insert(constant)?;
         }
     }
     Ok(constants)
 }
 
-/// The function that begins at a place.
-fn function_at(place: &Seen) -> Option<u32>
-    ensures { result ≡ function_at (place_of place.now) }
+/// The function that begins at a mention, if one does.
+fn function_at(mention: &Mention) -> Option<u32>
+    ensures { result ≡ function_at (mention_of mention.now) }
 {
-    match place.what {
+    match mention.what {
         What::Begins => {
-            if place.around.owner == TOP {
+            if mention.around.owner == TOP {
                 None
             } else {
-                Some(place.around.owner)
+                Some(mention.around.owner)
             }
         }
         _ => None,
@@ -157,24 +159,24 @@ fn function_at(place: &Seen) -> Option<u32>
 }
 
 /// The functions, in the order of their first tokens.
-pub fn functions_in(alloc: Global, places: &[Seen]) -> Result<IndexSet<u32>, AllocError>
-    ensures { IfOk result (λ s. s.keys ≡ functions_in (map place_of places.now)) }
+pub fn functions_in(alloc: Global, mentions: &[Mention]) -> Result<IndexSet<u32>, AllocError>
+    ensures { IfOk result (λ s. s.keys ≡ functions_in (map mention_of mentions.now)) }
 {
     let mut functions = IndexSet::new(alloc);
-    for place in places {
-        if let Some(function) = function_at(place) {
+    for mention in mentions {
+        if let Some(function) = function_at(mention) {
             functions.insert(function)?;
         }
     }
     Ok(functions)
 }
 
-/// The function around the one that begins at a place.
-fn around_there(place: &Seen) -> Option<u32>
-    ensures { result ≡ around_there (place_of place.now) }
+/// The function around the one that begins at a mention, if one does.
+fn around_there(mention: &Mention) -> Option<u32>
+    ensures { result ≡ around_there (mention_of mention.now) }
 {
-    match place.what {
-        What::Begins => Some(second(place.functions.as_slice())),
+    match mention.what {
+        What::Begins => Some(second(mention.functions.as_slice())),
         _ => None,
     }
 }
@@ -206,14 +208,17 @@ fn note_around(
 }
 
 /// The function around each function.
-pub fn functions_around(alloc: Global, places: &[Seen]) -> Result<IndexMap<u32, u32>, AllocError>
+pub fn functions_around(
+    alloc: Global,
+    mentions: &[Mention],
+) -> Result<IndexMap<u32, u32>, AllocError>
     ensures { IfOk result (λ m. (q : _) → get nat_eq m q
-        ≡ known_in owner_key around_there q (map place_of places.now)) }
+        ≡ known_in owner_key around_there q (map mention_of mentions.now)) }
 {
     let mut around = IndexMap::new(alloc);
-    for place in places {
-        let owner = around_there(place);
-        note_around(&mut around, place.around.owner, owner)?;
+    for mention in mentions {
+        let owner = around_there(mention);
+        note_around(&mut around, mention.around.owner, owner)?;
     }
     Ok(around)
 }

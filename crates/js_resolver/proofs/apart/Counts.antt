@@ -6,19 +6,19 @@ use Rattle.js_lexer.specs.declared.token.Token.{Token}
 use Rattle.js_tree.specs.Plain.{PlainItem}
 use Rattle.js_program.specs.PlainProgram.{PlainBody}
 use Rattle.js_grammar.specs.Grammar.{SpellsTree}
-use Rattle.js_names.specs.declared.place.Declared.{Declared}
-use Rattle.js_names.specs.declared.place.What.{What}
+use Rattle.js_names.specs.declared.mention.Declared.{Declared}
+use Rattle.js_names.specs.declared.mention.What.{What}
 use Rattle.js_names.specs.Entries.{top}
 use Rattle.js_names.specs.Spots.{program_spot}
-use Rattle.js_names.specs.Sites.{Site, begin_site, item_sites, program_sites}
-use Rattle.js_names.specs.Places.{Place, see, places}
+use Rattle.js_names.specs.Unresolved.{Unresolved, begin_mention, item_mentions, unresolved_mentions}
+use Rattle.js_names.specs.Mentions.{Mention, look_up, mentions}
 use Rattle.js_names.specs.Slots.{is_among, joins, assigned_in, constant_at, constant_in, variable_at, constants_of}
 use Rattle.js_resolver.specs.Variables.{capture_slots}
 use Rattle.js_resolver.specs.Nodes.{items_piece}
 use Rattle.js_resolver.specs.Resolved.{constant_of, program_of_tree}
 use Rattle.js_resolver.specs.Spelled.{next, InOrder}
 use Rattle.js_resolver.proofs.sound.Functions.{begun, captures_in_order, items_listed}
-use Rattle.js_resolver.proofs.sound.Places.{is_name}
+use Rattle.js_resolver.proofs.sound.Mentions.{is_name}
 use Rattle.js_resolver.proofs.sound.Program.{program_scopes}
 use Rattle.js_resolver.proofs.apart.Bounds.{Ascend}
 use Rattle.js_resolver.proofs.apart.Order.{names_in}
@@ -31,7 +31,7 @@ ascend_few : (low high : ℕ) (xs : List ℕ) → Ascend low high xs → low + l
 ascend_few low high [] h = omega (arith, h)
 ascend_few low high (x ∷ xs) h = omega (arith, h.0, ascend_few (suc x) high xs h.1)
 
--- no more tokens than places before the end
+-- no more tokens than offsets before the end
 order_few : (end : ℕ) (ts : List Token) → InOrder end ts → next end ts + length ts ≤ end
 order_few end [] h = omega arith
 order_few end (t ∷ ts) h = omega (arith, h.0, order_few end ts h.1)
@@ -48,14 +48,14 @@ option_few None xs = omega arith
 option_few (Some x) xs = omega arith
 
 -- no more constants than names
-constants_few : (assigned : List ℕ) (ss : List Site) → length (filter_map (constant_at assigned) (map see ss)) ≤ length (names_in ss)
-unfolding see
+constants_few : (assigned : List ℕ) (ss : List Unresolved) → length (filter_map (constant_at assigned) (map look_up ss)) ≤ length (names_in ss)
+unfolding look_up
 constants_few assigned [] = omega arith
 constants_few assigned (s ∷ ss) =
-    let rest = filter_map (constant_at assigned) (map see ss) in
-    let place = s.name.spot.at in
-    let cases : (w : What) (o : Option Declared) → length (cons_option (constant_in assigned (variable_at w o)) rest) ≤ length (if is_name w then place ∷ names_in ss else names_in ss) =
-    λ w o. elim w as (λ w. length (cons_option (constant_in assigned (variable_at w o)) rest) ≤ length (if is_name w then place ∷ names_in ss else names_in ss)) [
+    let rest = filter_map (constant_at assigned) (map look_up ss) in
+    let offset = s.name.spot.at in
+    let cases : (w : What) (o : Option Declared) → length (cons_option (constant_in assigned (variable_at w o)) rest) ≤ length (if is_name w then offset ∷ names_in ss else names_in ss) =
+    λ w o. elim w as (λ w. length (cons_option (constant_in assigned (variable_at w o)) rest) ≤ length (if is_name w then offset ∷ names_in ss else names_in ss)) [
       | What.Declares r ↦ omega (arith, option_few (constant_in assigned (variable_at (What.Declares r) o)) rest, constants_few assigned ss)
       | What.Reads ↦ omega (arith, constants_few assigned ss)
       | What.Assigns ↦ omega (arith, constants_few assigned ss)
@@ -65,9 +65,9 @@ constants_few assigned (s ∷ ss) =
       | What.Begins ↦ constants_few assigned ss
     ]
     in
-    cases s.what (see s).declared
+    cases s.what (look_up s).declared
 
-functions_few : (ps : List Place) (functions : List PlainBody) (fs : List ℕ) → captures_in_order functions ≡ map (capture_slots ps) fs → length functions ≡ length fs
+functions_few : (ps : List Mention) (functions : List PlainBody) (fs : List ℕ) → captures_in_order functions ≡ map (capture_slots ps) fs → length functions ≡ length fs
 functions_few ps functions fs e = sym (length-map functions (λ (c : PlainBody). c.captures)) ∙ (ap length e ∙ length-map fs (capture_slots ps))
 
 -- how many nodes, functions and constants a program has
@@ -78,15 +78,15 @@ pub record AreFew (end : ℕ) (items : List PlainItem) : Type 0 where
 
 -- no more than tokens in order before an end allow
 pub spelled_few : (end : ℕ) (ts : List Token) (items : List PlainItem) → InOrder end ts → SpellsTree ts items → AreFew end items
-unfolding program_of_tree places program_sites constants_of
+unfolding program_of_tree mentions unresolved_mentions constants_of
 spelled_few end ts items order spelled =
     let scopes = program_scopes items in
-    let ps = places items in
-    let first = begin_site scopes top (program_spot items) in
-    let ss = flat_map (item_sites scopes) items in
+    let ps = mentions items in
+    let first = begin_mention scopes top (program_spot items) in
+    let ss = flat_map (item_mentions scopes) items in
     let spans : Spans ts [] ss = tree_spans scopes (program_own items) (program_vars items) spelled in
     let lie : Lie end ts [] ss = spans.lie end order in
-    let all = filter_map (constant_at (assigned_in ps)) (map see (first ++ ss)) in
+    let all = filter_map (constant_at (assigned_in ps)) (map look_up (first ++ ss)) in
     let constant = length-map (constants_of (assigned_in ps) ps) (constant_of items ps) in
     record {
       nodes = omega (arith, items_few ps 0 spelled, order_few end ts order);

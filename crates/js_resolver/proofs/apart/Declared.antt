@@ -7,13 +7,13 @@ use Rattle.js_tree.specs.declared.tree.DeclareKind.{DeclareKind}
 use Rattle.js_tree.specs.declared.tree.DeclareKind.TheVariants.{Const as const_word, Let as let_word, Var as var_word}
 use Rattle.js_tree.specs.Plain as t
 use Rattle.js_tree.specs.Plain.{PlainPerhaps, PlainDeclarators, PlainStart, PlainStmt, PlainStmtForm, PlainStmts, PlainItem}
-use Rattle.js_names.specs.declared.place.Declared.{Declared}
-use Rattle.js_names.specs.declared.place.Around.{Around}
-use Rattle.js_names.specs.declared.place.What.{What}
+use Rattle.js_names.specs.declared.mention.Declared.{Declared}
+use Rattle.js_names.specs.declared.mention.Around.{Around}
+use Rattle.js_names.specs.declared.mention.What.{What}
 use Rattle.js_names.specs.Entries.{top, entry, own_declarator, own_declarators, own_of, own_of_all, own_of_start, own_of_item, var_declarator, var_declarators, vars_of, vars_of_form, vars_of_all, vars_of_start, vars_of_item}
 use Rattle.js_names.specs.Scopes.{Scope, named, first, one_var, parameters, block_scope, for_three_scope, list_scope, for_of_scope, for_of_role, function_scope, program_scope}
-use Rattle.js_names.specs.Sites.{Site, site, in_function, parameter_sites, declared_role}
-use Rattle.js_names.specs.Places.{found, found_var, found_here}
+use Rattle.js_names.specs.Unresolved.{Unresolved, one_mention, in_function, parameter_mentions, declared_role}
+use Rattle.js_names.specs.Mentions.{found, found_var, found_here}
 use Rattle.js_resolver.proofs.sound.Found.{in_whole, IsKept, There, AllFound}
 use Rattle.js_resolver.proofs.sound.Known.{earlier_is}
 use Rattle.js_resolver.proofs.apart.There.{AllThere, first_kept, var_kept, there_left, there_right, AllOf, of_append, nested_there, own_there, vars_there}
@@ -174,27 +174,27 @@ program_vars is = vars_there top (flat_map own_of_item is) (flat_map vars_of_ite
 
 -- the name of a declaration is found
 
-pub found_append : (xs ys : List Site) → AllFound xs → AllFound ys → AllFound (xs ++ ys)
+pub found_append : (xs ys : List Unresolved) → AllFound xs → AllFound ys → AllFound (xs ++ ys)
 found_append [] ys h k = k
 found_append (x ∷ xs) ys h k = (h.0, found_append xs ys h.1 k)
 
-parameters_there : (scopes : List Scope) (f : ℕ) (vars : List ℕ → Option Declared) (names : List Name) → AllThere (found scopes) f (in_whole scopes) (parameters f vars names) → AllFound (parameter_sites scopes (in_function f) names)
+parameters_there : (scopes : List Scope) (f : ℕ) (vars : List ℕ → Option Declared) (names : List Name) → AllThere (found scopes) f (in_whole scopes) (parameters f vars names) → AllFound (parameter_mentions scopes (in_function f) names)
 parameters_there scopes f vars [] h = tt
 parameters_there scopes f vars (x ∷ xs) h = (h.0, parameters_there scopes f vars xs h.1)
 
-pub parameters_found : (f : ℕ) (names : List Name) (ss : PlainStmts) (scopes : List Scope) → AllFound (parameter_sites (function_scope f names ss ∷ scopes) (in_function f) names)
+pub parameters_found : (f : ℕ) (names : List Name) (ss : PlainStmts) (scopes : List Scope) → AllFound (parameter_mentions (function_scope f names ss ∷ scopes) (in_function f) names)
 parameters_found f names ss scopes =
     let look = λ (q : List ℕ). one_var (named q (vars_of_all f true ss)) in
     parameters_there (function_scope f names ss ∷ scopes) f look names
     (there_left (found (function_scope f names ss ∷ scopes)) f (in_whole (function_scope f names ss ∷ scopes)) (parameters f look names) (own_of_all f true ss) (function_all f names ss scopes))
 
 pub declarator_found : (scopes : List Scope) (a : Around) (direct : Bool) (kind : DeclareKind) (name : Name) (value : PlainPerhaps) (end : ℕ) → AllThere (found scopes) a.owner (in_whole scopes) (own_declarator a.owner direct kind name value end)
-    → AllThere (found_var scopes) a.owner true (var_declarator a.owner direct kind name value end) → AllFound (site scopes a (What.Declares (declared_role kind)) name)
+    → AllThere (found_var scopes) a.owner true (var_declarator a.owner direct kind name value end) → AllFound (one_mention scopes a (What.Declares (declared_role kind)) name)
 declarator_found scopes a direct const_word name value end h k = (h.0, tt)
 declarator_found scopes a direct let_word name value end h k = (h.0, tt)
 declarator_found scopes a direct var_word name value end h k = (k.0, tt)
 
-pub each_found : (scopes : List Scope) (a : Around) (kind : DeclareKind) (name : Name) → AllFound (site (list_scope a.owner kind name ∷ scopes) a (What.Declares (for_of_role kind)) name)
+pub each_found : (scopes : List Scope) (a : Around) (kind : DeclareKind) (name : Name) → AllFound (one_mention (list_scope a.owner kind name ∷ scopes) a (What.Declares (for_of_role kind)) name)
 each_found scopes a const_word name = (each_own a.owner const_word name scopes, tt)
 each_found scopes a let_word name = (each_own a.owner let_word name scopes, tt)
 each_found scopes a var_word name = (each_own a.owner var_word name scopes, tt)

@@ -5,8 +5,8 @@ use Rattle.js_lexer.specs.declared.token.Token.{Token}
 use Rattle.js_tree.specs.declared.tree.Name.{Name}
 use Rattle.js_tree.specs.declared.tree.Spot.{Spot}
 use Rattle.js_grammar.specs.Sorts.{spot, named, name_at, kind_name}
-use Rattle.js_names.specs.Sites.{Site}
-use Rattle.js_resolver.proofs.sound.Places.{is_name}
+use Rattle.js_names.specs.Unresolved.{Unresolved}
+use Rattle.js_resolver.proofs.sound.Mentions.{is_name}
 
 name_spot : (o : Option (List ℕ)) (s : Spot) (x : Name) → name_at o s ≡ Some x → x.spot ≡ s
 name_spot None s x h = cc
@@ -15,14 +15,14 @@ name_spot (Some text) s x h =
     sym (ap (λ (n : Name). n.spot) e)
 
 -- a name stands at its token
-pub name_place : (t : Token) {x : Name} → named t ≡ Some x → x.spot.at ≡ t.from
+pub name_offset : (t : Token) {x : Name} → named t ≡ Some x → x.spot.at ≡ t.from
 unfolding named
-name_place t {x = x} h = ap (λ (s : Spot). s.at) (name_spot (kind_name t.kind) (spot t) x h)
+name_offset t {x = x} h = ap (λ (s : Spot). s.at) (name_spot (kind_name t.kind) (spot t) x h)
 
--- the places of the names among some sites
-abbrev pub names_in : List Site → List ℕ
+-- the offsets of the names among some mentions
+abbrev pub names_in : List Unresolved → List ℕ
 names_in [] = []
 names_in (s ∷ ss) = if is_name s.what then s.name.spot.at ∷ names_in ss else names_in ss
 
-pub names-append : (xs ys : List Site) → names_in (xs ++ ys) ≡ names_in xs ++ names_in ys
+pub names-append : (xs ys : List Unresolved) → names_in (xs ++ ys) ≡ names_in xs ++ names_in ys
 names-append xs ys = kept-append names_in (λ x. is_name x.what) (λ x. x.name.spot.at) refl (λ _ _. refl) xs ys

@@ -10,15 +10,15 @@ use Rattle.js_tree.specs.Plain.{PlainExpr, PlainField, PlainPerhaps, PlainDeclar
 use Rattle.js_lexer.specs.declared.sort.Sort.{Sort}
 use Rattle.js_grammar.specs.Tokens.{lexical, if_lexical, starts_lexical}
 use Rattle.js_grammar.specs.Grammar.{Level, Spells, number_of, words_of, true_of, false_of, null_of, name_of, round, list_of, fields_in, function_in, calls, no_sign, signed, update_before, update_after, operators, no_choice, choice, no_assignment, assignment, function_value, function_block, Called, called_first, called_member, called_index, called_with, Operated, operated_first, operated_more, Elements, elements_none, elements_last, elements_more, Field, field_pair, field_name, Fields, fields_none, fields_last, fields_more, Declarator, declarator_value, declarator_name, Declarators, declarators_last, declarators_more, Start, start_nothing, start_declares, start_value, Perhaps, perhaps_none, perhaps_some, Test, test_of, Statements, statements_end, statements_more, Body, body_of, Statement, empty_of, block_of, declaration_of, expression_of, if_only, if_both, while_loop, for_three, for_of, break_end, continue_end, return_end, return_value, Item, item_statement, item_function, SpellsTree, tree_end, tree_more}
-use Rattle.js_names.specs.declared.place.Around.{Around}
-use Rattle.js_names.specs.declared.place.Declared.{Declared}
-use Rattle.js_names.specs.declared.place.What.{What}
+use Rattle.js_names.specs.declared.mention.Around.{Around}
+use Rattle.js_names.specs.declared.mention.Declared.{Declared}
+use Rattle.js_names.specs.declared.mention.What.{What}
 use Rattle.js_names.specs.Entries.{top, own_declarator, own_declarators, own_of, own_of_all, own_of_start, own_of_item, var_declarator, var_declarators, vars_of, vars_of_all, vars_of_start, vars_of_item}
 use Rattle.js_names.specs.Scopes.{Scope, block_scope, for_three_scope, list_scope, for_of_scope, function_scope}
 use Rattle.js_names.specs.Forms.{object_of, called_builtin, value_builtin}
-use Rattle.js_names.specs.Sites.{site, declared_role, in_function, in_loop, expr_sites, form_sites, exprs_sites, fields_sites, perhaps_sites, declarators_sites, start_sites, stmt_sites, stmt_form_sites, stmts_sites, item_sites}
-use Rattle.js_names.specs.Places.{found, found_var}
-use Rattle.js_resolver.proofs.apart.Order.{name_place}
+use Rattle.js_names.specs.Unresolved.{one_mention, declared_role, in_function, in_loop, expr_mentions, form_mentions, exprs_mentions, fields_mentions, perhaps_mentions, declarators_mentions, start_mentions, stmt_mentions, stmt_form_mentions, stmts_mentions, item_mentions}
+use Rattle.js_names.specs.Mentions.{found, found_var}
+use Rattle.js_resolver.proofs.apart.Order.{name_offset}
 use Rattle.js_resolver.proofs.sound.Found.{in_whole, AllFound}
 use Rattle.js_resolver.proofs.apart.There.{AllThere, there_left, there_right}
 use Rattle.js_resolver.proofs.apart.Declared.{block_own, for_own, function_own, function_vars, parameters_found, declarator_found, each_found}
@@ -53,21 +53,21 @@ body_own look f w direct l (return_value h k s e) = tt
 
 -- the first of some declarators
 first_found : (scopes : List Scope) (a : Around) (direct : Bool) (kind : DeclareKind) (d : PlainDeclarator) (ds : PlainDeclarators) → AllThere (found scopes) a.owner (in_whole scopes) (own_declarators a.owner direct kind (p.declarator_in d.name d.value d.end ds)) →
-    AllThere (found_var scopes) a.owner true (var_declarators a.owner direct kind (p.declarator_in d.name d.value d.end ds)) → AllFound (site scopes a (What.Declares (declared_role kind)) d.name)
+    AllThere (found_var scopes) a.owner true (var_declarators a.owner direct kind (p.declarator_in d.name d.value d.end ds)) → AllFound (one_mention scopes a (What.Declares (declared_role kind)) d.name)
 first_found scopes a direct kind d ds own vars =
     declarator_found scopes a direct kind d.name d.value d.end (there_left (found scopes) a.owner (in_whole scopes) (own_declarator a.owner direct kind d.name d.value d.end) (own_declarators a.owner direct kind ds) own)
     (there_left (found_var scopes) a.owner true (var_declarator a.owner direct kind d.name d.value d.end) (var_declarators a.owner direct kind ds) vars)
 
 mutual
-  unfolding expr_sites form_sites exprs_sites fields_sites perhaps_sites declarators_sites start_sites stmt_sites stmt_form_sites stmts_sites found_var block_scope for_three_scope for_of_scope
+  unfolding expr_mentions form_mentions exprs_mentions fields_mentions perhaps_mentions declarators_mentions start_mentions stmt_mentions stmt_form_mentions stmts_mentions found_var block_scope for_three_scope for_of_scope
 
-  pub spells_spans : {l : Level} {ts rest : List Token} {e : PlainExpr} (scopes : List Scope) (a : Around) → Spells l ts e rest → Spans ts rest (expr_sites scopes a e)
+  pub spells_spans : {l : Level} {ts rest : List Token} {e : PlainExpr} (scopes : List Scope) (a : Around) → Spells l ts e rest → Spans ts rest (expr_mentions scopes a e)
   spells_spans scopes a (number_of h) = after nothing
   spells_spans scopes a (words_of h) = after nothing
   spells_spans scopes a (true_of h) = after nothing
   spells_spans scopes a (false_of h) = after nothing
   spells_spans scopes a (null_of h) = after nothing
-  spells_spans scopes a (name_of {x = x} h) = read_spans scopes a x (name_place _ h)
+  spells_spans scopes a (name_of {x = x} h) = read_spans scopes a x (name_offset _ h)
   spells_spans scopes a (round h s k) = after (up_to (spells_spans scopes a s))
   spells_spans scopes a (list_of h s) = after (elements_spans scopes a s)
   spells_spans scopes a (fields_in h s) = after (fields_spans scopes a s)
@@ -78,13 +78,13 @@ mutual
   spells_spans scopes a (calls s h) = called_spans scopes a s
   spells_spans scopes a (no_sign h k s) = spells_spans scopes a s
   spells_spans scopes a (signed h s) = after (spells_spans scopes a s)
-  spells_spans scopes a (update_before {x = x} h k) = after (assign_spans scopes a x (name_place _ k))
-  spells_spans scopes a (update_after {x = x} h k l) = up_to (assign_spans scopes a x (name_place _ h))
+  spells_spans scopes a (update_before {x = x} h k) = after (assign_spans scopes a x (name_offset _ k))
+  spells_spans scopes a (update_after {x = x} h k l) = up_to (assign_spans scopes a x (name_offset _ h))
   spells_spans scopes a (operators s h) = operated_spans scopes a s
   spells_spans scopes a (no_choice s h) = spells_spans scopes a s
   spells_spans scopes a (choice x h y k z) = and_then (up_to (spells_spans scopes a x)) (and_then (up_to (spells_spans scopes a y)) (spells_spans scopes a z))
   spells_spans scopes a (no_assignment h k s) = spells_spans scopes a s
-  spells_spans scopes a (assignment {x = x} h k s) = and_then (up_to (assign_spans scopes a x (name_place _ h))) (spells_spans scopes a s)
+  spells_spans scopes a (assignment {x = x} h k s) = and_then (up_to (assign_spans scopes a x (name_offset _ h))) (spells_spans scopes a s)
   spells_spans scopes a (function_value {t = t} {xs = xs} h k b s) =
       let inner = function_scope t.from xs p.no_stmts ∷ scopes in
       and_then (header_spans inner (parameters_found t.from xs p.no_stmts scopes) k) (spells_spans inner (in_function t.from) s)
@@ -93,38 +93,38 @@ mutual
       and_then (up_to (header_spans inner (parameters_found t.from xs (stmts_of ss) scopes) k))
       (up_to (statements_spans inner (in_function t.from) true (function_own t.from xs (stmts_of ss) scopes) (function_vars t.from xs (stmts_of ss) scopes) s))
 
-  called_spans : {ts rest : List Token} {e : PlainExpr} (scopes : List Scope) (a : Around) → Called ts e rest → Spans ts rest (expr_sites scopes a e)
+  called_spans : {ts rest : List Token} {e : PlainExpr} (scopes : List Scope) (a : Around) → Called ts e rest → Spans ts rest (expr_mentions scopes a e)
   called_spans scopes a (called_first s) = spells_spans scopes a s
   called_spans scopes a (called_member {e = e} {x = x} s h k) = member_spans scopes a (object_of e) x (is_some (value_builtin e x)) (up_to (up_to (called_spans scopes a s)))
   called_spans scopes a (called_index s h i k) = and_then (up_to (called_spans scopes a s)) (up_to (spells_spans scopes a i))
   called_spans scopes a (called_with {e = e} s h i) = and_then (unless (is_some (called_builtin e)) (up_to (called_spans scopes a s))) (elements_spans scopes a i)
 
-  operated_spans : {k : ℕ} {ts rest : List Token} {e : PlainExpr} (scopes : List Scope) (a : Around) → Operated k ts e rest → Spans ts rest (expr_sites scopes a e)
+  operated_spans : {k : ℕ} {ts rest : List Token} {e : PlainExpr} (scopes : List Scope) (a : Around) → Operated k ts e rest → Spans ts rest (expr_mentions scopes a e)
   operated_spans scopes a (operated_first s) = spells_spans scopes a s
   operated_spans scopes a (operated_more s h i) = and_then (up_to (operated_spans scopes a s)) (spells_spans scopes a i)
 
-  elements_spans : {c : Sort} {ts rest : List Token} {es : List PlainExpr} (scopes : List Scope) (a : Around) → Elements c ts es rest → Spans ts rest (exprs_sites scopes a (exprs_of es))
+  elements_spans : {c : Sort} {ts rest : List Token} {es : List PlainExpr} (scopes : List Scope) (a : Around) → Elements c ts es rest → Spans ts rest (exprs_mentions scopes a (exprs_of es))
   elements_spans scopes a (elements_none h) = after nothing
   elements_spans scopes a (elements_last h s k) = and_then (up_to (spells_spans scopes a s)) nothing
   elements_spans scopes a (elements_more h s k r) = and_then (up_to (spells_spans scopes a s)) (elements_spans scopes a r)
 
-  field_spans : {ts rest : List Token} {f : PlainField} (scopes : List Scope) (a : Around) → Field ts f rest → Spans ts rest (expr_sites scopes a f.value)
+  field_spans : {ts rest : List Token} {f : PlainField} (scopes : List Scope) (a : Around) → Field ts f rest → Spans ts rest (expr_mentions scopes a f.value)
   field_spans scopes a (field_pair h k s) = after (after (spells_spans scopes a s))
-  field_spans scopes a (field_name {x = x} h k) = read_spans scopes a x (name_place _ h)
+  field_spans scopes a (field_name {x = x} h k) = read_spans scopes a x (name_offset _ h)
 
-  fields_spans : {ts rest : List Token} {fs : List PlainField} (scopes : List Scope) (a : Around) → Fields ts fs rest → Spans ts rest (fields_sites scopes a (fields_of fs))
+  fields_spans : {ts rest : List Token} {fs : List PlainField} (scopes : List Scope) (a : Around) → Fields ts fs rest → Spans ts rest (fields_mentions scopes a (fields_of fs))
   fields_spans scopes a (fields_none h) = after nothing
   fields_spans scopes a (fields_last h s k) = and_then (up_to (field_spans scopes a s)) nothing
   fields_spans scopes a (fields_more h s k r) = and_then (up_to (field_spans scopes a s)) (fields_spans scopes a r)
 
   -- a declared name and its value
-  declarator_spans : {k : DeclareKind} {ts rest : List Token} {d : PlainDeclarator} (scopes : List Scope) (a : Around) → AllFound (site scopes a (What.Declares (declared_role k)) d.name) → Declarator k ts d rest →
-      Spans ts rest (site scopes a (What.Declares (declared_role k)) d.name ++ perhaps_sites scopes a d.value)
-  declarator_spans scopes a f (declarator_value h i s) = and_then (up_to (at_name _ (name_place _ h) refl f.0)) (spells_spans scopes a s)
-  declarator_spans scopes a f (declarator_name h i l) = and_then (at_name _ (name_place _ h) refl f.0) nothing
+  declarator_spans : {k : DeclareKind} {ts rest : List Token} {d : PlainDeclarator} (scopes : List Scope) (a : Around) → AllFound (one_mention scopes a (What.Declares (declared_role k)) d.name) → Declarator k ts d rest →
+      Spans ts rest (one_mention scopes a (What.Declares (declared_role k)) d.name ++ perhaps_mentions scopes a d.value)
+  declarator_spans scopes a f (declarator_value h i s) = and_then (up_to (at_name _ (name_offset _ h) refl f.0)) (spells_spans scopes a s)
+  declarator_spans scopes a f (declarator_name h i l) = and_then (at_name _ (name_offset _ h) refl f.0) nothing
 
   declarators_spans : {k : DeclareKind} {ts rest : List Token} {ds : List PlainDeclarator} (scopes : List Scope) (a : Around) (direct : Bool) → AllThere (found scopes) a.owner (in_whole scopes) (own_declarators a.owner direct k (declarators_of ds)) →
-      AllThere (found_var scopes) a.owner true (var_declarators a.owner direct k (declarators_of ds)) → Declarators k ts ds rest → Spans ts rest (declarators_sites scopes a k (declarators_of ds))
+      AllThere (found_var scopes) a.owner true (var_declarators a.owner direct k (declarators_of ds)) → Declarators k ts ds rest → Spans ts rest (declarators_mentions scopes a k (declarators_of ds))
   declarators_spans {k = k} scopes a direct own vars (declarators_last {d = d} s h) =
       let one = first_found scopes a direct k d p.no_declarators own vars in
       and_then (declarator_spans scopes a one s) nothing
@@ -135,20 +135,20 @@ mutual
       and_then (up_to (declarator_spans scopes a one s)) (declarators_spans scopes a direct own' vars' r)
 
   start_spans : {ts rest : List Token} {s : PlainStart} (scopes : List Scope) (a : Around) → AllThere (found scopes) a.owner (in_whole scopes) (own_of_start a.owner s) → AllThere (found_var scopes) a.owner true (vars_of_start a.owner s) → Start ts s rest →
-      Spans ts rest (start_sites scopes a s)
+      Spans ts rest (start_mentions scopes a s)
   start_spans scopes a own vars (start_nothing h) = nothing
   start_spans scopes a own vars (start_declares h s) = after (declarators_spans scopes a false own vars s)
   start_spans scopes a own vars (start_value h k s) = spells_spans scopes a s
 
-  perhaps_spans : {c : Sort} {ts rest : List Token} {e : PlainPerhaps} (scopes : List Scope) (a : Around) → Perhaps c ts e rest → Spans ts rest (perhaps_sites scopes a e)
+  perhaps_spans : {c : Sort} {ts rest : List Token} {e : PlainPerhaps} (scopes : List Scope) (a : Around) → Perhaps c ts e rest → Spans ts rest (perhaps_mentions scopes a e)
   perhaps_spans scopes a (perhaps_none h) = nothing
   perhaps_spans scopes a (perhaps_some h s) = spells_spans scopes a s
 
-  test_spans : {ts rest : List Token} {e : PlainExpr} (scopes : List Scope) (a : Around) → Test ts e rest → Spans ts rest (expr_sites scopes a e)
+  test_spans : {ts rest : List Token} {e : PlainExpr} (scopes : List Scope) (a : Around) → Test ts e rest → Spans ts rest (expr_mentions scopes a e)
   test_spans scopes a (test_of h s k) = after (up_to (spells_spans scopes a s))
 
   pub statements_spans : {ts rest : List Token} {ss : List PlainStmt} (scopes : List Scope) (a : Around) (direct : Bool) → AllThere (found scopes) a.owner (in_whole scopes) (own_of_all a.owner direct (stmts_of ss)) →
-      AllThere (found_var scopes) a.owner true (vars_of_all a.owner direct (stmts_of ss)) → Statements ts ss rest → Spans ts rest (stmts_sites scopes a (stmts_of ss))
+      AllThere (found_var scopes) a.owner true (vars_of_all a.owner direct (stmts_of ss)) → Statements ts ss rest → Spans ts rest (stmts_mentions scopes a (stmts_of ss))
   statements_spans scopes a direct own vars (statements_end h) = nothing
   statements_spans scopes a direct own vars (statements_more {s = s} {ss = ss} h x r) =
       let f = a.owner in
@@ -156,11 +156,11 @@ mutual
       (statement_spans scopes a direct (there_left (found scopes) f (in_whole scopes) (own_of f direct s) (own_of_all f direct (stmts_of ss)) own) (there_left (found_var scopes) f true (vars_of f direct s) (vars_of_all f direct (stmts_of ss)) vars) x)
       (statements_spans scopes a direct (there_right (found scopes) f (in_whole scopes) (own_of f direct s) (own_of_all f direct (stmts_of ss)) own) (there_right (found_var scopes) f true (vars_of f direct s) (vars_of_all f direct (stmts_of ss)) vars) r)
 
-  body_spans : {ts rest : List Token} {s : PlainStmt} (scopes : List Scope) (a : Around) → AllThere (found_var scopes) a.owner true (vars_of a.owner false s) → Body ts s rest → Spans ts rest (stmt_sites scopes a s)
+  body_spans : {ts rest : List Token} {s : PlainStmt} (scopes : List Scope) (a : Around) → AllThere (found_var scopes) a.owner true (vars_of a.owner false s) → Body ts s rest → Spans ts rest (stmt_mentions scopes a s)
   body_spans scopes a vars (body_of h s) = statement_spans scopes a false (body_own (found scopes) a.owner (in_whole scopes) false h s) vars s
 
   pub statement_spans : {ts rest : List Token} {s : PlainStmt} (scopes : List Scope) (a : Around) (direct : Bool) → AllThere (found scopes) a.owner (in_whole scopes) (own_of a.owner direct s) → AllThere (found_var scopes) a.owner true (vars_of a.owner direct s) →
-      Statement ts s rest → Spans ts rest (stmt_sites scopes a s)
+      Statement ts s rest → Spans ts rest (stmt_mentions scopes a s)
   statement_spans scopes a direct own vars (empty_of h) = after nothing
   statement_spans scopes a direct own vars (block_of {ss = ss} h s k) = after (up_to (statements_spans (block_scope a.owner (stmts_of ss) ∷ scopes) a false (block_own a.owner (stmts_of ss) scopes) vars s))
   statement_spans scopes a direct own vars (declaration_of h s e) = after (ended (declarators_spans scopes a direct own vars s) e)
@@ -180,23 +180,23 @@ mutual
       let listed = list_scope a.owner k n ∷ scopes in
       let inner = for_of_scope a.owner k n x ∷ scopes in
       let f = each_found scopes a k n in
-      after (after (after (and_then (up_to (at_name _ (name_place _ m) refl f.0)) (and_then (up_to (spells_spans listed a s)) (body_spans inner (in_loop a) vars r)))))
+      after (after (after (and_then (up_to (at_name _ (name_offset _ m) refl f.0)) (and_then (up_to (spells_spans listed a s)) (body_spans inner (in_loop a) vars r)))))
   statement_spans scopes a direct own vars (break_end h e) = ended (at_name _ refl refl tt) e
   statement_spans scopes a direct own vars (continue_end h e) = ended (at_name _ refl refl tt) e
   statement_spans scopes a direct own vars (return_end h k e) = ended (at_name _ refl refl tt) e
   statement_spans scopes a direct own vars (return_value h k s e) = ended (and_then (at_name _ refl refl tt) (spells_spans scopes a s)) e
 
-item_spans : {ts rest : List Token} {i : PlainItem} (scopes : List Scope) → AllThere (found scopes) top (in_whole scopes) (own_of_item i) → AllThere (found_var scopes) top true (vars_of_item i) → Item ts i rest → Spans ts rest (item_sites scopes i)
-unfolding item_sites
+item_spans : {ts rest : List Token} {i : PlainItem} (scopes : List Scope) → AllThere (found scopes) top (in_whole scopes) (own_of_item i) → AllThere (found_var scopes) top true (vars_of_item i) → Item ts i rest → Spans ts rest (item_mentions scopes i)
+unfolding item_mentions
 item_spans scopes own vars (item_statement h s) = statement_spans scopes (in_function top) true own vars s
 item_spans scopes own vars (item_function {t = t} {x = x} {xs = xs} {ss = ss} h k o s l) =
     let inner = function_scope t.from xs (stmts_of ss) ∷ scopes in
-    and_then (declared_spans inner _ (name_place _ k) refl refl own.0 (parameters_found t.from xs (stmts_of ss) scopes) o)
+    and_then (declared_spans inner _ (name_offset _ k) refl refl own.0 (parameters_found t.from xs (stmts_of ss) scopes) o)
     (up_to (statements_spans inner (in_function t.from) true (function_own t.from xs (stmts_of ss) scopes) (function_vars t.from xs (stmts_of ss) scopes) s))
 
 -- and those of all items among all tokens
 pub tree_spans : {ts : List Token} {is : List PlainItem} (scopes : List Scope) → AllThere (found scopes) top (in_whole scopes) (flat_map own_of_item is) → AllThere (found_var scopes) top true (flat_map vars_of_item is) → SpellsTree ts is →
-    Spans ts [] (flat_map (item_sites scopes) is)
+    Spans ts [] (flat_map (item_mentions scopes) is)
 tree_spans scopes own vars tree_end = nothing
 tree_spans scopes own vars (tree_more {i = i} {is = is} x s) =
     let here = item_spans scopes (there_left (found scopes) top (in_whole scopes) (own_of_item i) (flat_map own_of_item is) own) (there_left (found_var scopes) top true (vars_of_item i) (flat_map vars_of_item is) vars) x in

@@ -4,10 +4,10 @@ use Rattle.std.proofs.lemmas.Bool.{false≢true}
 use Rattle.std.proofs.lemmas.Slice.Eq.{bytes_eq-Decides}
 use Rattle.std.specs.Prelude.{is_some, max, nat_lt}
 use Rattle.std.specs.Str.{bytes_eq}
-use Rattle.js_names.specs.declared.place.Declared.{Declared}
+use Rattle.js_names.specs.declared.mention.Declared.{Declared}
 use Rattle.js_names.specs.Entries.{Entry}
 use Rattle.js_names.specs.Scopes.{Scope, named, first, one_var, merge, scope_with}
-use Rattle.js_names.specs.Places.{found, found_var, earlier}
+use Rattle.js_names.specs.Mentions.{found, found_var, earlier}
 use Rattle.js_resolver.proofs.sound.Found.{IsKept, There}
 use Rattle.js_resolver.proofs.sound.Known.{here_look, here_look_var}
 
@@ -92,7 +92,7 @@ earlier_kept f w None None g k s = elim s as (λ _. (d : Declared) × (earlier N
 earlier_kept f w None (Some e) g k s = (e, refl, k e refl)
 earlier_kept f w (Some d) None g k s = (d, refl, g d refl)
 earlier_kept f w (Some d) (Some e) g k s =
-    elim (nat_lt e.place d.place) as (λ b. (c : Declared) × ((if b then Some e else Some d) ≡ Some c) × IsKept f w c) [ true ↦ (e, refl, k e refl) | false ↦ (d, refl, g d refl) ]
+    elim (nat_lt e.offset d.offset) as (λ b. (c : Declared) × ((if b then Some e else Some d) ≡ Some c) × IsKept f w c) [ true ↦ (e, refl, k e refl) | false ↦ (d, refl, g d refl) ]
 
 -- the names of a block's or a `for`'s scope are found in it
 pub nested_there : (f : ℕ) (own : List Entry) (vars : List ℕ → Option Declared) (scopes : List Scope) → AllOf f false own

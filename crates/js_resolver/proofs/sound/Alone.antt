@@ -11,22 +11,22 @@ use Rattle.js_tree.specs.declared.tree.DeclareKind.{DeclareKind}
 use Rattle.js_tree.specs.declared.tree.DeclareKind.TheVariants.{Const as const_word, Let as let_word, Var as var_word}
 use Rattle.js_tree.specs.Plain as t
 use Rattle.js_tree.specs.Plain.{PlainDeclarators, PlainStart, PlainStmt, PlainStmtForm, PlainStmts, PlainItem}
-use Rattle.js_names.specs.declared.place.Declared.{Declared}
-use Rattle.js_names.specs.declared.place.Role.TheVariants.{Function}
-use Rattle.js_names.specs.declared.place.What.{What}
+use Rattle.js_names.specs.declared.mention.Declared.{Declared}
+use Rattle.js_names.specs.declared.mention.Role.TheVariants.{Function}
+use Rattle.js_names.specs.declared.mention.What.{What}
 use Rattle.js_names.specs.Entries.{Entry, top, own_declarators, own_of, own_of_item, var_declarators, vars_of, vars_of_form, vars_of_all, vars_of_start, vars_of_item}
 use Rattle.js_names.specs.Scopes.{Scope, named, first, one_var, merge, block_scope, for_three_scope, list_scope, for_of_scope, function_scope, program_scope}
 use Rattle.js_names.specs.Spots.{program_spot}
-use Rattle.js_names.specs.Sites.{Site, site, begin_site, parameter_sites, in_function, program_sites, stmts_sites, item_sites}
-use Rattle.js_names.specs.Places.{Place, see, places, found, found_here, or_else, functions_of, declared_at, is_var, is_function}
-use Rattle.js_names.specs.Slots.{assigned_in, captures, copies, is_mention, is_constant, is_outer, is_among, inside}
+use Rattle.js_names.specs.Unresolved.{Unresolved, one_mention, begin_mention, parameter_mentions, in_function, unresolved_mentions, stmts_mentions, item_mentions}
+use Rattle.js_names.specs.Mentions.{Mention, look_up, mentions, found, found_here, or_else, functions_of, declared_at, is_var, is_function}
+use Rattle.js_names.specs.Slots.{assigned_in, captures, copies, is_use, is_constant, is_outer, is_among, inside}
 use Rattle.js_resolver.proofs.sound.Functions.{begun, begun-append, begun-parameters}
 use Rattle.js_resolver.proofs.sound.Known.{earlier_is}
-use Rattle.js_resolver.proofs.sound.Lists.{In, in-left, in-right, HasPlace}
-use Rattle.js_resolver.proofs.sound.Places.{captured}
+use Rattle.js_resolver.proofs.sound.Lists.{In, in-left, in-right, HasMention}
+use Rattle.js_resolver.proofs.sound.Mentions.{captured}
 use Rattle.js_resolver.proofs.sound.Program.{program_scopes, AllAlone}
 use Rattle.js_resolver.proofs.sound.Room.{NoRepeats}
-use Rattle.js_resolver.proofs.sound.Walk.{IsClosed, AllIn, walks_append, walks_site, walks_function, stmt_walks, stmts_walks}
+use Rattle.js_resolver.proofs.sound.Walk.{IsClosed, AllIn, walks_append, walks_mention, walks_function, stmt_walks, stmts_walks}
 use Rattle.js_resolver.proofs.apart.Declared.{block_kept, for_kept, list_kept, turn_kept, function_kept}
 
 -- a variable of the top level that stands in its list, or is a `var`
@@ -34,19 +34,19 @@ abbrev IsLoose : Declared → Type 0
 IsLoose d = (d.owner ≡ top) × ((d.direct ≡ true) ⊎ (is_var d.role ≡ true))
 
 -- such a variable is a constant, or can't be copied
-loose_stays : (assigned : List ℕ) (q : Place) (d : Declared) → IsLoose d → copies assigned q d ≡ true → ⊥
+loose_stays : (assigned : List ℕ) (q : Mention) (d : Declared) → IsLoose d → copies assigned q d ≡ true → ⊥
 loose_stays assigned q d l c =
-    let mentioned = and_parts (is_mention q.what) _ c in
-    let both = and_parts (is_outer assigned q d) _ mentioned.1 in
+    let used = and_parts (is_use q.what) _ c in
+    let both = and_parts (is_outer assigned q d) _ used.1 in
     let variable : is_constant assigned d ≡ false = not-true _ (and_parts (not (nat_eq d.owner q.around.owner)) _ both.0).1 in
     let copied = and_parts (not (is_var d.role) || d.direct) _ both.1 in
-    let unchanged : is_among d.place assigned ≡ false = not-true _ (and_parts (not (is_among d.place assigned)) _ copied.1).0 in
+    let unchanged : is_among d.offset assigned ≡ false = not-true _ (and_parts (not (is_among d.offset assigned)) _ copied.1).0 in
     let direct : d.direct ≡ true =
     elim l.1 as (λ _. d.direct ≡ true) [ inl e ↦ e | inr e ↦ subst (λ (b : Bool). (not b || d.direct) ≡ true) e copied.0 ]
     in
     let constant : is_constant assigned d ≡ true =
-    ap (λ (b : Bool). is_function d.role || (b && (d.direct && not (is_among d.place assigned)))) (eq-eqb d.owner top l.0)
-    ∙ (ap (λ (b : Bool). is_function d.role || (b && not (is_among d.place assigned))) direct
+    ap (λ (b : Bool). is_function d.role || (b && (d.direct && not (is_among d.offset assigned)))) (eq-eqb d.owner top l.0)
+    ∙ (ap (λ (b : Bool). is_function d.role || (b && not (is_among d.offset assigned))) direct
     ∙ (ap (λ (b : Bool). is_function d.role || not b) unchanged ∙ or-true (is_function d.role)))
     in
     true≢false (sym constant ∙ variable)
@@ -226,16 +226,16 @@ outside_closed f = record {
   function = λ g h names ss scopes absent k m. elim m as (λ _. ⊥) [ inl e ↦ absent (sym e) | inr e ↦ k e ];
 }
 
--- a place that has f copy nothing
+-- a mention that has f copy nothing
 
-abbrev Spares : ℕ → Place → Type 0
+abbrev Spares : ℕ → Mention → Type 0
 Spares f q = (assigned : List ℕ) (d : Declared) → q.declared ≡ Some d → copies assigned q d ≡ true → In f (inside d.owner q.functions) → ⊥
 
-abbrev AllSpare : ℕ → List Site → Type 0
+abbrev AllSpare : ℕ → List Unresolved → Type 0
 AllSpare f [] = Unit {0}
-AllSpare f (s ∷ ss) = Spares f (see s) × AllSpare f ss
+AllSpare f (s ∷ ss) = Spares f (look_up s) × AllSpare f ss
 
-spare_append : (f : ℕ) (xs ys : List Site) → AllSpare f xs → AllSpare f ys → AllSpare f (xs ++ ys)
+spare_append : (f : ℕ) (xs ys : List Unresolved) → AllSpare f xs → AllSpare f ys → AllSpare f (xs ++ ys)
 spare_append f [] ys h k = k
 spare_append f (x ∷ xs) ys h k = (h.0, spare_append f xs ys h.1 k)
 
@@ -264,79 +264,79 @@ stops f o (x ∷ before) rest absent h m =
     in
     cases (nat_eq x o) refl m
 
-quiet_spares : (f : ℕ) (s : Site) → is_mention s.what ≡ false → Spares f (see s)
-unfolding see
-quiet_spares f s h assigned d e c m = true≢false (sym (and_parts (is_mention s.what) _ c).0 ∙ h)
+quiet_spares : (f : ℕ) (s : Unresolved) → is_use s.what ≡ false → Spares f (look_up s)
+unfolding look_up
+quiet_spares f s h assigned d e c m = true≢false (sym (and_parts (is_use s.what) _ c).0 ∙ h)
 
-mention_found : (w : What) (scopes : List Scope) (q : List ℕ) (d : Declared) → is_mention w ≡ true → declared_at w scopes q ≡ Some d → found scopes q ≡ Some d
-mention_found (What.Declares r) scopes q d m h = absurd (false≢true m)
-mention_found What.Reads scopes q d m h = h
-mention_found What.Assigns scopes q d m h = h
-mention_found What.Misuses scopes q d m h = absurd (false≢true m)
-mention_found What.LoopWord scopes q d m h = absurd (false≢true m)
-mention_found What.Returns scopes q d m h = absurd (false≢true m)
-mention_found What.Begins scopes q d m h = absurd (false≢true m)
+use_found : (w : What) (scopes : List Scope) (q : List ℕ) (d : Declared) → is_use w ≡ true → declared_at w scopes q ≡ Some d → found scopes q ≡ Some d
+use_found (What.Declares r) scopes q d m h = absurd (false≢true m)
+use_found What.Reads scopes q d m h = h
+use_found What.Assigns scopes q d m h = h
+use_found What.Misuses scopes q d m h = absurd (false≢true m)
+use_found What.LoopWord scopes q d m h = absurd (false≢true m)
+use_found What.Returns scopes q d m h = absurd (false≢true m)
+use_found What.Begins scopes q d m h = absurd (false≢true m)
 
-inside_spares : (f : ℕ) (s : Site) → IsInside f s.around.owner s.scopes → Spares f (see s)
-unfolding see
+inside_spares : (f : ℕ) (s : Unresolved) → IsInside f s.around.owner s.scopes → Spares f (look_up s)
+unfolding look_up
 inside_spares f s k assigned d e c m =
-    let at : found s.scopes s.name.text ≡ Some d = mention_found s.what s.scopes s.name.text d (and_parts (is_mention s.what) _ c).0 e in
+    let at : found s.scopes s.name.text ≡ Some d = use_found s.what s.scopes s.name.text d (and_parts (is_use s.what) _ c).0 e in
     elim (k.found s.name.text d at) as (λ _. ⊥)
-    [ inl o ↦ stops f d.owner k.before (top ∷ []) k.apart o (subst (λ fs. In f (inside d.owner fs)) k.around m) | inr l ↦ loose_stays assigned (see s) d l c ]
+    [ inl o ↦ stops f d.owner k.before (top ∷ []) k.apart o (subst (λ fs. In f (inside d.owner fs)) k.around m) | inr l ↦ loose_stays assigned (look_up s) d l c ]
 
-all_inside : (f : ℕ) (ss : List Site) → AllIn (IsInside f) ss → AllSpare f ss
+all_inside : (f : ℕ) (ss : List Unresolved) → AllIn (IsInside f) ss → AllSpare f ss
 all_inside f [] h = tt
 all_inside f (s ∷ ss) h = (inside_spares f s h.0, all_inside f ss h.1)
 
-outside_spares : (f : ℕ) (s : Site) → IsOutside f s.around.owner s.scopes → Spares f (see s)
-unfolding see
+outside_spares : (f : ℕ) (s : Unresolved) → IsOutside f s.around.owner s.scopes → Spares f (look_up s)
+unfolding look_up
 outside_spares f s k assigned d e c m = k (inside_in d.owner f (functions_of s.scopes) m)
 
-all_outside : (f : ℕ) (ss : List Site) → AllIn (IsOutside f) ss → AllSpare f ss
+all_outside : (f : ℕ) (ss : List Unresolved) → AllIn (IsOutside f) ss → AllSpare f ss
 all_outside f [] h = tt
 all_outside f (s ∷ ss) h = (outside_spares f s h.0, all_outside f ss h.1)
 
-parameters_spare : (f : ℕ) (scopes : List Scope) (g : ℕ) (names : List Name) → AllSpare f (parameter_sites scopes (in_function g) names)
+parameters_spare : (f : ℕ) (scopes : List Scope) (g : ℕ) (names : List Name) → AllSpare f (parameter_mentions scopes (in_function g) names)
 parameters_spare f scopes g [] = tt
 parameters_spare f scopes g (x ∷ xs) = (quiet_spares f _ refl, parameters_spare f scopes g xs)
 
 -- a declared function has itself copy nothing
-own_spares : (items : List PlainItem) (spot : Spot) (name : Name) (names : List Name) (ss : PlainStmts) → (In spot.at (begun (stmts_sites (function_scope spot.at names ss ∷ program_scopes items) (in_function spot.at) ss)) → ⊥)
-    → AllSpare spot.at (item_sites (program_scopes items) (t.function_of spot name names ss))
-unfolding item_sites
+own_spares : (items : List PlainItem) (spot : Spot) (name : Name) (names : List Name) (ss : PlainStmts) → (In spot.at (begun (stmts_mentions (function_scope spot.at names ss ∷ program_scopes items) (in_function spot.at) ss)) → ⊥)
+    → AllSpare spot.at (item_mentions (program_scopes items) (t.function_of spot name names ss))
+unfolding item_mentions
 own_spares items spot name names ss absent =
     let f = spot.at in
     let inner = function_scope f names ss ∷ program_scopes items in
-    let sites = stmts_sites inner (in_function f) ss in (
+    let ms = stmts_mentions inner (in_function f) ss in (
       quiet_spares f _ refl,
       (
         quiet_spares f _ refl,
-        spare_append f (parameter_sites inner (in_function f) names) sites (parameters_spare f inner f names)
-            (all_inside f sites (stmts_walks (IsInside f) f (inside_closed f) inner (in_function f) ss (inside_first f names ss items) absent)),
+        spare_append f (parameter_mentions inner (in_function f) names) ms (parameters_spare f inner f names)
+            (all_inside f ms (stmts_walks (IsInside f) f (inside_closed f) inner (in_function f) ss (inside_first f names ss items) absent)),
       ),
     )
 
 -- and so do all other items
-other_spares : (f : ℕ) (scopes : List Scope) (i : PlainItem) → IsOutside f top scopes → (In f (begun (item_sites scopes i)) → ⊥) → AllSpare f (item_sites scopes i)
-unfolding item_sites
+other_spares : (f : ℕ) (scopes : List Scope) (i : PlainItem) → IsOutside f top scopes → (In f (begun (item_mentions scopes i)) → ⊥) → AllSpare f (item_mentions scopes i)
+unfolding item_mentions
 other_spares f scopes (t.statement begin s) k absent = all_outside f _ (stmt_walks (IsOutside f) f (outside_closed f) scopes (in_function top) s k absent)
 other_spares f scopes (t.function_of spot name names ss) k absent =
     let inner = function_scope spot.at names ss ∷ scopes in
-    let sites = stmts_sites inner (in_function spot.at) ss in
-    let body = begin_site inner spot.at spot ++ (parameter_sites inner (in_function spot.at) names ++ sites) in
-    all_outside f (site scopes (in_function top) (What.Declares Function) name ++ body)
-    (walks_append (IsOutside f) f (site scopes (in_function top) (What.Declares Function) name) body (walks_site (IsOutside f) f scopes (in_function top) (What.Declares Function) name k)
-    (walks_function (IsOutside f) f (outside_closed f) scopes top spot names ss sites k (λ m. stmts_walks (IsOutside f) f (outside_closed f) inner (in_function spot.at) ss m)) absent)
+    let ms = stmts_mentions inner (in_function spot.at) ss in
+    let body = begin_mention inner spot.at spot ++ (parameter_mentions inner (in_function spot.at) names ++ ms) in
+    all_outside f (one_mention scopes (in_function top) (What.Declares Function) name ++ body)
+    (walks_append (IsOutside f) f (one_mention scopes (in_function top) (What.Declares Function) name) body (walks_mention (IsOutside f) f scopes (in_function top) (What.Declares Function) name k)
+    (walks_function (IsOutside f) f (outside_closed f) scopes top spot names ss ms k (λ m. stmts_walks (IsOutside f) f (outside_closed f) inner (in_function spot.at) ss m)) absent)
 
-others_spare : (f : ℕ) (scopes : List Scope) (is : List PlainItem) → IsOutside f top scopes → (In f (begun (flat_map (item_sites scopes) is)) → ⊥) → AllSpare f (flat_map (item_sites scopes) is)
+others_spare : (f : ℕ) (scopes : List Scope) (is : List PlainItem) → IsOutside f top scopes → (In f (begun (flat_map (item_mentions scopes) is)) → ⊥) → AllSpare f (flat_map (item_mentions scopes) is)
 others_spare f scopes [] k absent = tt
 others_spare f scopes (i ∷ is) k absent =
-    let here = item_sites scopes i in
-    let rest = flat_map (item_sites scopes) is in
+    let here = item_mentions scopes i in
+    let rest = flat_map (item_mentions scopes) is in
     let both : In f (begun here ++ begun rest) → ⊥ = λ m. absent (subst (In f) (sym (begun-append here rest)) m) in
     spare_append f here rest (other_spares f scopes i k (λ m. both (in-left f (begun here) (begun rest) m))) (others_spare f scopes is k (λ m. both (in-right f (begun here) (begun rest) m)))
 
--- the places where declared functions begin
+-- the offsets where declared functions begin
 
 abbrev IsDeclaredAt : ℕ → List PlainItem → Type 0
 IsDeclaredAt f [] = ⊥
@@ -344,22 +344,22 @@ IsDeclaredAt f (t.statement begin s ∷ is) = IsDeclaredAt f is
 IsDeclaredAt f (t.function_of spot name names ss ∷ is) = (spot.at ≡ f) ⊎ IsDeclaredAt f is
 
 begun_item : (scopes : List Scope) (spot : Spot) (name : Name) (names : List Name) (ss : PlainStmts)
-    → begun (item_sites scopes (t.function_of spot name names ss)) ≡ spot.at ∷ begun (stmts_sites (function_scope spot.at names ss ∷ scopes) (in_function spot.at) ss)
-unfolding item_sites
+    → begun (item_mentions scopes (t.function_of spot name names ss)) ≡ spot.at ∷ begun (stmts_mentions (function_scope spot.at names ss ∷ scopes) (in_function spot.at) ss)
+unfolding item_mentions
 begun_item scopes spot name names ss =
     let inner = function_scope spot.at names ss ∷ scopes in
-    let sites = stmts_sites inner (in_function spot.at) ss in
-    ap (λ z. spot.at ∷ z) (begun-append (parameter_sites inner (in_function spot.at) names) sites ∙ ap (λ z. z ++ begun sites) (begun-parameters inner (in_function spot.at) names))
+    let ms = stmts_mentions inner (in_function spot.at) ss in
+    ap (λ z. spot.at ∷ z) (begun-append (parameter_mentions inner (in_function spot.at) names) ms ∙ ap (λ z. z ++ begun ms) (begun-parameters inner (in_function spot.at) names))
 
-declared_begins : (scopes : List Scope) (f : ℕ) (is : List PlainItem) → IsDeclaredAt f is → In f (begun (flat_map (item_sites scopes) is))
+declared_begins : (scopes : List Scope) (f : ℕ) (is : List PlainItem) → IsDeclaredAt f is → In f (begun (flat_map (item_mentions scopes) is))
 declared_begins scopes f [] h = h
 declared_begins scopes f (t.statement begin s ∷ is) h =
-    let here = item_sites scopes (t.statement begin s) in
-    let rest = flat_map (item_sites scopes) is in
+    let here = item_mentions scopes (t.statement begin s) in
+    let rest = flat_map (item_mentions scopes) is in
     subst (In f) (sym (begun-append here rest)) (in-right f (begun here) (begun rest) (declared_begins scopes f is h))
 declared_begins scopes f (t.function_of spot name names ss ∷ is) h =
-    let here = item_sites scopes (t.function_of spot name names ss) in
-    let rest = flat_map (item_sites scopes) is in
+    let here = item_mentions scopes (t.function_of spot name names ss) in
+    let rest = flat_map (item_mentions scopes) is in
     let first : In spot.at (begun here) = subst (In spot.at) (sym (begun_item scopes spot name names ss)) (inl refl) in
     subst (In f) (sym (begun-append here rest))
     (elim h as (λ _. In f (begun here ++ begun rest)) [ inl e ↦ in-left f (begun here) (begun rest) (subst (λ z. In z (begun here)) e first) | inr e ↦ in-right f (begun here) (begun rest) (declared_begins scopes f is e) ])
@@ -377,20 +377,20 @@ no_repeats_apart [] ys h v m n = m
 no_repeats_apart (x ∷ xs) ys h v (inl e) n = h.0 (subst (λ z. In z (xs ++ ys)) e (in-right v xs ys n))
 no_repeats_apart (x ∷ xs) ys h v (inr m) n = no_repeats_apart xs ys h.1 v m n
 
-items_spare : (items : List PlainItem) (f : ℕ) (is : List PlainItem) → IsOutside f top (program_scopes items) → IsDeclaredAt f is → NoRepeats (begun (flat_map (item_sites (program_scopes items)) is)) → AllSpare f (flat_map (item_sites (program_scopes items)) is)
+items_spare : (items : List PlainItem) (f : ℕ) (is : List PlainItem) → IsOutside f top (program_scopes items) → IsDeclaredAt f is → NoRepeats (begun (flat_map (item_mentions (program_scopes items)) is)) → AllSpare f (flat_map (item_mentions (program_scopes items)) is)
 items_spare items f [] k h n = tt
 items_spare items f (t.statement begin s ∷ is) k h n =
     let scopes = program_scopes items in
-    let here = item_sites scopes (t.statement begin s) in
-    let rest = flat_map (item_sites scopes) is in
+    let here = item_mentions scopes (t.statement begin s) in
+    let rest = flat_map (item_mentions scopes) is in
     let both : NoRepeats (begun here ++ begun rest) = subst NoRepeats (begun-append here rest) n in
     spare_append f here rest (other_spares f scopes (t.statement begin s) k (λ m. no_repeats_apart (begun here) (begun rest) both f m (declared_begins scopes f is h))) (items_spare items f is k h (no_repeats_right (begun here) (begun rest) both))
 items_spare items f (t.function_of spot name names ss ∷ is) k h n =
     let scopes = program_scopes items in
-    let here = item_sites scopes (t.function_of spot name names ss) in
-    let rest = flat_map (item_sites scopes) is in
+    let here = item_mentions scopes (t.function_of spot name names ss) in
+    let rest = flat_map (item_mentions scopes) is in
     let both : NoRepeats (begun here ++ begun rest) = subst NoRepeats (begun-append here rest) n in
-    let body = begun (stmts_sites (function_scope spot.at names ss ∷ scopes) (in_function spot.at) ss) in
+    let body = begun (stmts_mentions (function_scope spot.at names ss ∷ scopes) (in_function spot.at) ss) in
     let item : NoRepeats (spot.at ∷ body) = subst NoRepeats (begun_item scopes spot name names ss) (no_repeats_left (begun here) (begun rest) both) in
     elim h as (λ _. AllSpare f (here ++ rest)) [
       | inl e ↦
@@ -401,7 +401,7 @@ items_spare items f (t.function_of spot name names ss ∷ is) k h n =
           (items_spare items f is k e (no_repeats_right (begun here) (begun rest) both))
     ]
 
-spare_at : (f : ℕ) (ss : List Site) (q : Place) → HasPlace q (map see ss) → AllSpare f ss → Spares f q
+spare_at : (f : ℕ) (ss : List Unresolved) (q : Mention) → HasMention q (map look_up ss) → AllSpare f ss → Spares f q
 spare_at f [] q h k = absurd h
 spare_at f (s ∷ ss) q (inl e) k = subst (Spares f) (sym e) k.0
 spare_at f (s ∷ ss) q (inr h) k = spare_at f ss q h k.1
@@ -410,24 +410,24 @@ no_elements : (xs : List ℕ) → ((v : ℕ) → In v xs → ⊥) → xs ≡ []
 no_elements [] h = refl
 no_elements (x ∷ xs) h = absurd (h x (inl refl))
 
-nothing_copied : (items : List PlainItem) (f : ℕ) → AllSpare f (flat_map (item_sites (program_scopes items)) items) → captures (assigned_in (places items)) f (places items) ≡ []
-unfolding places program_sites
+nothing_copied : (items : List PlainItem) (f : ℕ) → AllSpare f (flat_map (item_mentions (program_scopes items)) items) → captures (assigned_in (mentions items)) f (mentions items) ≡ []
+unfolding mentions unresolved_mentions
 nothing_copied items f h =
-    let ps = places items in
-    let sites = flat_map (item_sites (program_scopes items)) items in
-    let first = begin_site (program_scopes items) top (program_spot items) in
-    no_elements (captures (assigned_in ps) f ps) (λ v m. let c = captured ps f v m in spare_at f (first ++ sites) c.place c.has (quiet_spares f _ refl, h) (assigned_in ps) c.declared c.is c.copies c.within)
+    let ps = mentions items in
+    let ms = flat_map (item_mentions (program_scopes items)) items in
+    let first = begin_mention (program_scopes items) top (program_spot items) in
+    no_elements (captures (assigned_in ps) f ps) (λ v m. let c = captured ps f v m in spare_at f (first ++ ms) c.mention c.has (quiet_spares f _ refl, h) (assigned_in ps) c.declared c.is c.copies c.within)
 
-all_alone : (ps : List Place) (is : List PlainItem) → ((f : ℕ) → IsDeclaredAt f is → captures (assigned_in ps) f ps ≡ []) → AllAlone ps is
+all_alone : (ps : List Mention) (is : List PlainItem) → ((f : ℕ) → IsDeclaredAt f is → captures (assigned_in ps) f ps ≡ []) → AllAlone ps is
 all_alone ps [] h = tt
 all_alone ps (t.statement begin s ∷ is) h = all_alone ps is h
 all_alone ps (t.function_of spot name names ss ∷ is) h = (h spot.at (inl refl), all_alone ps is (λ f m. h f (inr m)))
 
 -- no declared function of a program copies anything
-pub declared_alone : (items : List PlainItem) → NoRepeats (begun (flat_map (item_sites (program_scopes items)) items)) → (In top (begun (flat_map (item_sites (program_scopes items)) items)) → ⊥) → AllAlone (places items) items
+pub declared_alone : (items : List PlainItem) → NoRepeats (begun (flat_map (item_mentions (program_scopes items)) items)) → (In top (begun (flat_map (item_mentions (program_scopes items)) items)) → ⊥) → AllAlone (mentions items) items
 unfolding functions_of program_scope
-declared_alone items n inner = all_alone (places items) items (λ f h.
+declared_alone items n inner = all_alone (mentions items) items (λ f h.
     let outside : IsOutside f top (program_scopes items) = λ m.
-    elim m as (λ _. ⊥) [ inl e ↦ inner (subst (λ z. In z (begun (flat_map (item_sites (program_scopes items)) items))) e (declared_begins (program_scopes items) f items h)) | inr e ↦ e ]
+    elim m as (λ _. ⊥) [ inl e ↦ inner (subst (λ z. In z (begun (flat_map (item_mentions (program_scopes items)) items))) e (declared_begins (program_scopes items) f items h)) | inr e ↦ e ]
     in
     nothing_copied items f (items_spare items f items outside h n))

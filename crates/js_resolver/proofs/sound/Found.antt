@@ -1,17 +1,17 @@
--- What is known of the places of a program, and of the declaration that a declared name stands for.
+-- What is known of the mentions of a program, and of the declaration that a declared name stands for.
 use Rattle.std.proofs.Common.{◌≡◌, ℕ, List, [], ◌∷◌, Option, Some, Bool, true, false, ◌||◌}
-use Rattle.js_names.specs.declared.place.Declared.{Declared}
-use Rattle.js_names.specs.declared.place.What.{What}
+use Rattle.js_names.specs.declared.mention.Declared.{Declared}
+use Rattle.js_names.specs.declared.mention.What.{What}
 use Rattle.js_names.specs.Entries.{top}
 use Rattle.js_names.specs.Scopes.{Scope}
-use Rattle.js_names.specs.Sites.{Site}
-use Rattle.js_names.specs.Places.{Place, see, declared_at, is_function, is_var}
-use Rattle.js_resolver.proofs.sound.Lists.{HasPlace}
+use Rattle.js_names.specs.Unresolved.{Unresolved}
+use Rattle.js_names.specs.Mentions.{Mention, look_up, declared_at, is_function, is_var}
+use Rattle.js_resolver.proofs.sound.Lists.{HasMention}
 
--- places of a program
-abbrev pub AllHave : List Place → List Site → Type 0
+-- mentions of a program
+abbrev pub AllHave : List Mention → List Unresolved → Type 0
 AllHave ps [] = Unit {0}
-AllHave ps (s ∷ ss) = HasPlace (see s) ps × AllHave ps ss
+AllHave ps (s ∷ ss) = HasMention (look_up s) ps × AllHave ps ss
 
 -- whether the innermost scope is a whole function's, or the program's
 abbrev pub in_whole : List Scope → Bool
@@ -29,10 +29,10 @@ abbrev pub There : (List ℕ → Option Declared) → ℕ → Bool → List ℕ 
 There look f w q = (d : Declared) × (look q ≡ Some d) × IsKept f w d
 
 -- the name of a declaration is found
-abbrev pub IsFound : What → Site → Type 0
+abbrev pub IsFound : What → Unresolved → Type 0
 IsFound (What.Declares role) s = There (declared_at (What.Declares role) s.scopes) s.around.owner (is_var role || in_whole s.scopes) s.name.text
 IsFound _ s = Unit {0}
 
-abbrev pub AllFound : List Site → Type 0
+abbrev pub AllFound : List Unresolved → Type 0
 AllFound [] = Unit {0}
 AllFound (s ∷ ss) = IsFound s.what s × AllFound ss

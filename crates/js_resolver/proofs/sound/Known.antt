@@ -1,4 +1,4 @@
--- The scopes around each place of a program are known.
+-- The scopes around each mention of a program are known.
 use Rattle.std.proofs.Common.{◌≡◌, ◌∙◌, ◌⊎◌, inl, inr, ℕ, List, [], ◌∷◌, ◌++◌, refl, ap, sym, subst, Option, Some, None, Bool, true, false, if◌then◌else◌}
 use Rattle.std.specs.Prelude.{nat_lt, unwrap_or}
 use Rattle.std.specs.Str.{bytes_eq}
@@ -6,23 +6,23 @@ use Rattle.js_tree.specs.declared.tree.Name.{Name}
 use Rattle.js_tree.specs.declared.tree.Spot.{Spot}
 use Rattle.js_tree.specs.declared.tree.DeclareKind.{DeclareKind}
 use Rattle.js_tree.specs.Plain.{PlainStart, PlainStmt, PlainStmts}
-use Rattle.js_names.specs.declared.place.Around.{Around}
-use Rattle.js_names.specs.declared.place.Declared.{Declared}
-use Rattle.js_names.specs.declared.place.Role.{Role}
-use Rattle.js_names.specs.declared.place.What.{What}
+use Rattle.js_names.specs.declared.mention.Around.{Around}
+use Rattle.js_names.specs.declared.mention.Declared.{Declared}
+use Rattle.js_names.specs.declared.mention.Role.{Role}
+use Rattle.js_names.specs.declared.mention.What.{What}
 use Rattle.js_names.specs.Entries.{top, entry, own_of_all, own_of_start, vars_of_all}
 use Rattle.js_names.specs.Scopes.{Scope, named, first, one_var, parameters, block_scope, for_three_scope, list_scope, for_of_scope, for_of_role, function_scope}
-use Rattle.js_names.specs.Sites.{site, in_function, begin_site, parameter_sites, start_sites, stmts_sites}
-use Rattle.js_names.specs.Places.{Place, see, earlier, found, found_var, found_here, or_else, functions_of}
+use Rattle.js_names.specs.Unresolved.{one_mention, in_function, begin_mention, parameter_mentions, start_mentions, stmts_mentions}
+use Rattle.js_names.specs.Mentions.{Mention, look_up, earlier, found, found_var, found_here, or_else, functions_of}
 use Rattle.js_names.specs.Slots.{is_begin}
 use Rattle.js_resolver.specs.Variables.{second, around_of, around_there, owner_key}
 use Rattle.js_resolver.proofs.sound.Found.{AllHave}
-use Rattle.js_resolver.proofs.sound.Lists.{In, HasPlace}
-use Rattle.js_resolver.proofs.sound.Places.{IsDeclared, IsChain, known-found}
+use Rattle.js_resolver.proofs.sound.Lists.{In, HasMention}
+use Rattle.js_resolver.proofs.sound.Mentions.{IsDeclared, IsChain, known-found}
 use Rattle.js_resolver.proofs.sound.Scopes.{AllStated, stated_append, own_declares, vars_declare, declared_from, stated_all, stated_start, stated_parameters, stated_each}
 
 -- what each of some scopes, the innermost first, declares for the functions around
-pub record ScopesKnown (ps : List Place) (f : ℕ) (scopes : List Scope) : Type 0 where
+pub record ScopesKnown (ps : List Mention) (f : ℕ) (scopes : List Scope) : Type 0 where
   pub outer : List ℕ
   pub within : functions_of scopes ≡ f ∷ outer
   pub chain : IsChain ps (functions_of scopes)
@@ -30,21 +30,21 @@ pub record ScopesKnown (ps : List Place) (f : ℕ) (scopes : List Scope) : Type 
   pub var : (q : List ℕ) (d : Declared) → found_var scopes q ≡ Some d → IsDeclared ps d × (d.owner ≡ f)
 
 -- each declared name has a declaration in its function
-abbrev pub AllDeclared : List Place → Type 0
-AllDeclared ps = (q : Place) → HasPlace q ps → (role : Role) → q.what ≡ What.Declares role → (d : Declared) × (q.declared ≡ Some d) × (d.owner ≡ q.around.owner)
+abbrev pub AllDeclared : List Mention → Type 0
+AllDeclared ps = (q : Mention) → HasMention q ps → (role : Role) → q.what ≡ What.Declares role → (d : Declared) × (q.declared ≡ Some d) × (d.owner ≡ q.around.owner)
 
--- functions that begin at one place are in one function
-abbrev pub BeginApart : List Place → Type 0
-BeginApart ps = (q r : Place) → HasPlace q ps → HasPlace r ps → is_begin q.what ≡ true → is_begin r.what ≡ true → q.around.owner ≡ r.around.owner → second top q.functions ≡ second top r.functions
+-- functions that begin at one offset are in one function
+abbrev pub BeginApart : List Mention → Type 0
+BeginApart ps = (q r : Mention) → HasMention q ps → HasMention r ps → is_begin q.what ≡ true → is_begin r.what ≡ true → q.around.owner ≡ r.around.owner → second top q.functions ≡ second top r.functions
 
-around-from : (r : Place) (w : ℕ) → around_there r ≡ Some w → (is_begin r.what ≡ true) × (second top r.functions ≡ w)
+around-from : (r : Mention) (w : ℕ) → around_there r ≡ Some w → (is_begin r.what ≡ true) × (second top r.functions ≡ w)
 around-from r w h =
     let cases : (b : Bool) → (is_begin r.what ≡ b) → (if b then Some (second top r.functions) else None) ≡ Some w → (is_begin r.what ≡ true) × (second top r.functions ≡ w) =
     λ b. elim b as (λ b. (is_begin r.what ≡ b) → (if b then Some (second top r.functions) else None) ≡ Some w → (is_begin r.what ≡ true) × (second top r.functions ≡ w)) [ true ↦ λ e k. (e, cc) | false ↦ λ e k. cc ]
     in
     cases (is_begin r.what) refl h
 
-pub around_is : (ps : List Place) (q : Place) → BeginApart ps → HasPlace q ps → is_begin q.what ≡ true → around_of ps q.around.owner ≡ second top q.functions
+pub around_is : (ps : List Mention) (q : Mention) → BeginApart ps → HasMention q ps → is_begin q.what ≡ true → around_of ps q.around.owner ≡ second top q.functions
 unfolding around_of
 around_is ps q apart has begins =
     let value : around_there q ≡ Some (second top q.functions) = ap (λ (b : Bool). if b then Some (second top q.functions) else None) begins in
@@ -52,17 +52,17 @@ around_is ps q apart has begins =
     let r = around-from k.0 k.1 k.4 in
     ap (λ o. unwrap_or o top) k.5 ∙ (sym r.1 ∙ apart k.0 q k.2 has r.0 begins k.3)
 
-pub declared-is : (ps : List Place) (f : ℕ) (c d : Declared) → Some c ≡ Some d → IsDeclared ps c × (c.owner ≡ f) → IsDeclared ps d × (d.owner ≡ f)
+pub declared-is : (ps : List Mention) (f : ℕ) (c d : Declared) → Some c ≡ Some d → IsDeclared ps c × (c.owner ≡ f) → IsDeclared ps d × (d.owner ≡ f)
 declared-is ps f c d e h = let is : c ≡ d = cc in subst (λ z. IsDeclared ps z × (z.owner ≡ f)) is h
 
 in-first : (f : ℕ) (fs outer : List ℕ) (x : ℕ) → fs ≡ f ∷ outer → x ≡ f → In x fs
 in-first f fs outer x e h = subst (In x) (sym e) (inl h)
 
 -- what a scope finds among its own names, and among its `var`s
-abbrev pub OwnKnown : List Place → ℕ → Scope → Type 0
+abbrev pub OwnKnown : List Mention → ℕ → Scope → Type 0
 OwnKnown ps f s = (q : List ℕ) (d : Declared) → found_here s q ≡ Some d → s.own q ≡ Some d → IsDeclared ps d × (d.owner ≡ f)
 
-abbrev pub VarsKnown : List Place → ℕ → Scope → Type 0
+abbrev pub VarsKnown : List Mention → ℕ → Scope → Type 0
 VarsKnown ps f s = (q : List ℕ) (d : Declared) → found_here s q ≡ Some d → s.vars q ≡ Some d → IsDeclared ps d × (d.owner ≡ f)
 
 -- the earlier of two declarations is one of them
@@ -70,13 +70,13 @@ pub earlier_is : (a b : Option Declared) (d : Declared) → earlier a b ≡ Some
 earlier_is None b d h = inr h
 earlier_is (Some x) None d h = inl h
 earlier_is (Some x) (Some y) d h =
-    elim (nat_lt y.place x.place) as (λ b. (if b then Some y else Some x) ≡ Some d → (Some x ≡ Some d) ⊎ (Some y ≡ Some d)) [ true ↦ λ k. inr k | false ↦ λ k. inl k ] h
+    elim (nat_lt y.offset x.offset) as (λ b. (if b then Some y else Some x) ≡ Some d → (Some x ≡ Some d) ⊎ (Some y ≡ Some d)) [ true ↦ λ k. inr k | false ↦ λ k. inl k ] h
 
 found_inner : (s : Scope) (q : List ℕ) → s.whole ≡ false → found_here s q ≡ s.own q
 found_inner s q w = ap (λ (b : Bool). if b then earlier (s.own q) (s.vars q) else s.own q) w
 
 -- one more scope of the same function
-scopes_inner : (ps : List Place) (f : ℕ) (s : Scope) (scopes : List Scope) → s.whole ≡ false → OwnKnown ps f s → ScopesKnown ps f scopes → ScopesKnown ps f (s ∷ scopes)
+scopes_inner : (ps : List Mention) (f : ℕ) (s : Scope) (scopes : List Scope) → s.whole ≡ false → OwnKnown ps f s → ScopesKnown ps f scopes → ScopesKnown ps f (s ∷ scopes)
 unfolding functions_of found found_var
 scopes_inner ps f s scopes w own k =
     let same : functions_of (s ∷ scopes) ≡ functions_of scopes = ap (λ (b : Bool). (if b then s.owner ∷ [] else []) ++ functions_of scopes) w in
@@ -94,13 +94,13 @@ scopes_inner ps f s scopes w own k =
       var = λ q d h. k.var q d (subst (λ (b : Bool). (if b then found_here s q else found_var scopes q) ≡ Some d) w h);
     }
 
-pub here_known : (ps : List Place) (f : ℕ) (s : Scope) → s.whole ≡ true → OwnKnown ps f s → VarsKnown ps f s → (q : List ℕ) (d : Declared) → found_here s q ≡ Some d → IsDeclared ps d × (d.owner ≡ f)
+pub here_known : (ps : List Mention) (f : ℕ) (s : Scope) → s.whole ≡ true → OwnKnown ps f s → VarsKnown ps f s → (q : List ℕ) (d : Declared) → found_here s q ≡ Some d → IsDeclared ps d × (d.owner ≡ f)
 here_known ps f s w own vars q d h =
     let among : earlier (s.own q) (s.vars q) ≡ Some d = sym (ap (λ (b : Bool). if b then earlier (s.own q) (s.vars q) else s.own q) w) ∙ h in
     elim (earlier_is (s.own q) (s.vars q) d among) as (λ _. IsDeclared ps d × (d.owner ≡ f)) [ inl e ↦ own q d h e | inr e ↦ vars q d h e ]
 
 -- the scope of a function
-scopes_function : (ps : List Place) (f g : ℕ) (s : Scope) (scopes : List Scope) → s.whole ≡ true → s.owner ≡ g → OwnKnown ps g s → VarsKnown ps g s → around_of ps g ≡ f → ScopesKnown ps f scopes → ScopesKnown ps g (s ∷ scopes)
+scopes_function : (ps : List Mention) (f g : ℕ) (s : Scope) (scopes : List Scope) → s.whole ≡ true → s.owner ≡ g → OwnKnown ps g s → VarsKnown ps g s → around_of ps g ≡ f → ScopesKnown ps f scopes → ScopesKnown ps g (s ∷ scopes)
 unfolding functions_of found found_var
 scopes_function ps f g s scopes w owner own vars around k =
     let same : functions_of (s ∷ scopes) ≡ g ∷ functions_of scopes = ap (λ (b : Bool). (if b then s.owner ∷ [] else []) ++ functions_of scopes) w ∙ ap (λ z. z ∷ functions_of scopes) owner in
@@ -125,19 +125,19 @@ pub here_look_var : (s : Scope) (scopes : List Scope) (q : List ℕ) (d : Declar
 unfolding found_var
 here_look_var s scopes q d w e = ap (λ (b : Bool). if b then found_here s q else found_var scopes q) w ∙ e
 
-pub block_known : (ps : List Place) (scopes : List Scope) (a : Around) (ss : PlainStmts) → ScopesKnown ps a.owner scopes → AllHave ps (stmts_sites (block_scope a.owner ss ∷ scopes) a ss) → ScopesKnown ps a.owner (block_scope a.owner ss ∷ scopes)
+pub block_known : (ps : List Mention) (scopes : List Scope) (a : Around) (ss : PlainStmts) → ScopesKnown ps a.owner scopes → AllHave ps (stmts_mentions (block_scope a.owner ss ∷ scopes) a ss) → ScopesKnown ps a.owner (block_scope a.owner ss ∷ scopes)
 unfolding block_scope
 block_known ps scopes a ss k h =
     let s = block_scope a.owner ss in
     scopes_inner ps a.owner s scopes refl (λ q d here e. own_declares ps (found (s ∷ scopes)) a.owner q d (own_of_all a.owner false ss) (stated_all ps (s ∷ scopes) a false ss h) e (here_look s scopes q d here)) k
 
-pub for_known : (ps : List Place) (scopes : List Scope) (a : Around) (start : PlainStart) (body : PlainStmt) → ScopesKnown ps a.owner scopes → AllHave ps (start_sites (for_three_scope a.owner start body ∷ scopes) a start) → ScopesKnown ps a.owner (for_three_scope a.owner start body ∷ scopes)
+pub for_known : (ps : List Mention) (scopes : List Scope) (a : Around) (start : PlainStart) (body : PlainStmt) → ScopesKnown ps a.owner scopes → AllHave ps (start_mentions (for_three_scope a.owner start body ∷ scopes) a start) → ScopesKnown ps a.owner (for_three_scope a.owner start body ∷ scopes)
 unfolding for_three_scope
 for_known ps scopes a start body k h =
     let s = for_three_scope a.owner start body in
     scopes_inner ps a.owner s scopes refl (λ q d here e. own_declares ps (found (s ∷ scopes)) a.owner q d (own_of_start a.owner start) (stated_start ps (s ∷ scopes) a start h) e (here_look s scopes q d here)) k
 
-pub list_known : (ps : List Place) (scopes : List Scope) (a : Around) (kind : DeclareKind) (name : Name) → ScopesKnown ps a.owner scopes → AllHave ps (site (list_scope a.owner kind name ∷ scopes) a (What.Declares (for_of_role kind)) name)
+pub list_known : (ps : List Mention) (scopes : List Scope) (a : Around) (kind : DeclareKind) (name : Name) → ScopesKnown ps a.owner scopes → AllHave ps (one_mention (list_scope a.owner kind name ∷ scopes) a (What.Declares (for_of_role kind)) name)
     → ScopesKnown ps a.owner (list_scope a.owner kind name ∷ scopes)
 unfolding list_scope
 list_known ps scopes a kind name k h =
@@ -145,7 +145,7 @@ list_known ps scopes a kind name k h =
     scopes_inner ps a.owner s scopes refl (λ q d here e. own_declares ps (found (s ∷ scopes)) a.owner q d (entry name (for_of_role kind) top a.owner false 0 ∷ []) (stated_each ps (s ∷ scopes) a top kind name h) e (here_look s scopes q d here)) k
 
 -- the body has the variable that the list has
-pub each_known : (ps : List Place) (scopes : List Scope) (a : Around) (kind : DeclareKind) (name : Name) (body : PlainStmt) → ScopesKnown ps a.owner scopes → AllHave ps (site (list_scope a.owner kind name ∷ scopes) a (What.Declares (for_of_role kind)) name)
+pub each_known : (ps : List Mention) (scopes : List Scope) (a : Around) (kind : DeclareKind) (name : Name) (body : PlainStmt) → ScopesKnown ps a.owner scopes → AllHave ps (one_mention (list_scope a.owner kind name ∷ scopes) a (What.Declares (for_of_role kind)) name)
     → ScopesKnown ps a.owner (for_of_scope a.owner kind name body ∷ scopes)
 unfolding list_scope for_of_scope
 each_known ps scopes a kind name body k h =
@@ -163,10 +163,10 @@ each_known ps scopes a kind name body k h =
     in
     scopes_inner ps a.owner (for_of_scope a.owner kind name body) scopes refl (λ q d here e. own q d (bytes_eq name.text q) refl e) k
 
-pub function_known : (ps : List Place) (scopes : List Scope) (f : ℕ) (spot : Spot) (names : List Name) (ss : PlainStmts) → BeginApart ps → ScopesKnown ps f scopes → AllHave ps (begin_site (function_scope spot.at names ss ∷ scopes) spot.at spot)
-    → AllHave ps (parameter_sites (function_scope spot.at names ss ∷ scopes) (in_function spot.at) names) → AllStated ps (found (function_scope spot.at names ss ∷ scopes)) spot.at (own_of_all spot.at true ss)
+pub function_known : (ps : List Mention) (scopes : List Scope) (f : ℕ) (spot : Spot) (names : List Name) (ss : PlainStmts) → BeginApart ps → ScopesKnown ps f scopes → AllHave ps (begin_mention (function_scope spot.at names ss ∷ scopes) spot.at spot)
+    → AllHave ps (parameter_mentions (function_scope spot.at names ss ∷ scopes) (in_function spot.at) names) → AllStated ps (found (function_scope spot.at names ss ∷ scopes)) spot.at (own_of_all spot.at true ss)
     → AllStated ps (found_var (function_scope spot.at names ss ∷ scopes)) spot.at (vars_of_all spot.at true ss) → ScopesKnown ps spot.at (function_scope spot.at names ss ∷ scopes)
-unfolding function_scope see functions_of
+unfolding function_scope look_up functions_of
 function_known ps scopes f spot names ss apart k begins params own vars =
     let s = function_scope spot.at names ss in
     let look = λ (q : List ℕ). one_var (named q (vars_of_all spot.at true ss)) in

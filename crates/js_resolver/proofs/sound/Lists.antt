@@ -4,8 +4,8 @@ use Rattle.std.proofs.lemmas.Bool.{lt-ltb, ltb-true, eqb-true, or_cases, false�
 use Rattle.std.specs.Prelude.{unwrap_or, nat_lt, not}
 use Rattle.std.specs.List.{flat_map, prefix_len}
 use Rattle.js_program.specs.Sound.{all_below}
-use Rattle.js_names.specs.declared.place.Declared.{Declared}
-use Rattle.js_names.specs.Places.{Place, is_var}
+use Rattle.js_names.specs.declared.mention.Declared.{Declared}
+use Rattle.js_names.specs.Mentions.{Mention, is_var}
 use Rattle.js_names.specs.Slots.{Holding, held_by, is_among, joins, first_uses, assigned_in, holdings, slots_of, vars_of, parameter_in, captures_in, variable_in, variable_at, variable_of, var_of, var_in}
 use Rattle.js_names.proofs.HeldLemmas.{held-append}
 use Rattle.js_resolver.specs.Variables.{index_in, slots_among, var_slots}
@@ -103,27 +103,27 @@ held-right q v xs ys h = subst (In v) (sym (held-append q xs ys)) (in-right v (h
 pub held-cases : (q v : ℕ) (xs ys : List Holding) → In v (held_by q (xs ++ ys)) → In v (held_by q xs) ⊎ In v (held_by q ys)
 held-cases q v xs ys h = in-cases v (held_by q xs) (held_by q ys) (subst (In v) (held-append q xs ys) h)
 
--- a list has a place
-abbrev pub HasPlace : Place → List Place → Type 0
-HasPlace p [] = ⊥
-HasPlace p (q ∷ qs) = (p ≡ q) ⊎ HasPlace p qs
+-- a list has a mention
+abbrev pub HasMention : Mention → List Mention → Type 0
+HasMention p [] = ⊥
+HasMention p (q ∷ qs) = (p ≡ q) ⊎ HasMention p qs
 
--- what a place gives is held
-pub held-from : (g : Place → List Holding) (q v : ℕ) (p : Place) (ps : List Place) → HasPlace p ps → In v (held_by q (g p)) → In v (held_by q (flat_map g ps))
+-- what a mention gives is held
+pub held-from : (g : Mention → List Holding) (q v : ℕ) (p : Mention) (ps : List Mention) → HasMention p ps → In v (held_by q (g p)) → In v (held_by q (flat_map g ps))
 held-from g q v p [] h k = absurd h
 held-from g q v p (x ∷ xs) (inl e) k = held-left q v (g x) (flat_map g xs) (subst (λ z. In v (held_by q (g z))) e k)
 held-from g q v p (x ∷ xs) (inr h) k = held-right q v (g x) (flat_map g xs) (held-from g q v p xs h k)
 
-pub parameter_slot : (assigned : List ℕ) (ps : List Place) (f v : ℕ) → In v (held_by f (flat_map parameter_in ps)) → In v (slots_of assigned f ps)
+pub parameter_slot : (assigned : List ℕ) (ps : List Mention) (f v : ℕ) → In v (held_by f (flat_map parameter_in ps)) → In v (slots_of assigned f ps)
 unfolding slots_of holdings
 parameter_slot assigned ps f v h = in-first_uses v (held_by f (holdings assigned ps)) (held-left f v (flat_map parameter_in ps) (flat_map (captures_in assigned) ps ++ flat_map (variable_in assigned) ps) h)
 
-pub capture_slot : (assigned : List ℕ) (ps : List Place) (f v : ℕ) → In v (held_by f (flat_map (captures_in assigned) ps)) → In v (slots_of assigned f ps)
+pub capture_slot : (assigned : List ℕ) (ps : List Mention) (f v : ℕ) → In v (held_by f (flat_map (captures_in assigned) ps)) → In v (slots_of assigned f ps)
 unfolding slots_of holdings
 capture_slot assigned ps f v h =
     in-first_uses v (held_by f (holdings assigned ps)) (held-right f v (flat_map parameter_in ps) (flat_map (captures_in assigned) ps ++ flat_map (variable_in assigned) ps) (held-left f v (flat_map (captures_in assigned) ps) (flat_map (variable_in assigned) ps) h))
 
-pub variable_slot : (assigned : List ℕ) (ps : List Place) (f v : ℕ) → In v (held_by f (flat_map (variable_in assigned) ps)) → In v (slots_of assigned f ps)
+pub variable_slot : (assigned : List ℕ) (ps : List Mention) (f v : ℕ) → In v (held_by f (flat_map (variable_in assigned) ps)) → In v (slots_of assigned f ps)
 unfolding slots_of holdings
 variable_slot assigned ps f v h =
     in-first_uses v (held_by f (holdings assigned ps)) (held-right f v (flat_map parameter_in ps) (flat_map (captures_in assigned) ps ++ flat_map (variable_in assigned) ps) (held-right f v (flat_map (captures_in assigned) ps) (flat_map (variable_in assigned) ps) h))
@@ -132,7 +132,7 @@ var-at : (assigned : List ℕ) (f v : ℕ) (o : Option Declared) → In v (held_
 var-at assigned f v None h = h
 var-at assigned f v (Some d) h = elim (is_var d.role) as (λ b. In v (held_by f (if b then variable_of assigned (Some d) else [])) → In v (held_by f (variable_of assigned (Some d)))) [ true ↦ λ k. k | false ↦ λ k. absurd k ] h
 
-var-held : (assigned : List ℕ) (f v : ℕ) (ps : List Place) → In v (held_by f (flat_map (var_in assigned) ps)) → In v (held_by f (flat_map (variable_in assigned) ps))
+var-held : (assigned : List ℕ) (f v : ℕ) (ps : List Mention) → In v (held_by f (flat_map (var_in assigned) ps)) → In v (held_by f (flat_map (variable_in assigned) ps))
 var-held assigned f v [] h = h
 var-held assigned f v (p ∷ ps) h =
     elim (held-cases f v (var_in assigned p) (flat_map (var_in assigned) ps) h) as (λ _. In v (held_by f (flat_map (variable_in assigned) (p ∷ ps)))) [
@@ -141,7 +141,7 @@ var-held assigned f v (p ∷ ps) h =
     ]
 
 -- a function's `var`s have slots
-pub vars_fit : (ps : List Place) (f : ℕ) → all_below (length (slots_of (assigned_in ps) f ps)) (var_slots ps f) ≡ true
+pub vars_fit : (ps : List Mention) (f : ℕ) → all_below (length (slots_of (assigned_in ps) f ps)) (var_slots ps f) ≡ true
 unfolding vars_of
 vars_fit ps f =
     let assigned = assigned_in ps in

@@ -12,7 +12,7 @@ use Rattle.js_program.specs.PlainProgram.{PlainNodeForm, PlainNode, PlainContent
 use Rattle.js_program.specs.Sound.{ordered}
 use Rattle.js_names.specs.Entries.{is_present}
 use Rattle.js_names.specs.Forms.{called_builtin, value_builtin}
-use Rattle.js_names.specs.Places.{Place, places}
+use Rattle.js_names.specs.Mentions.{Mention, mentions}
 use Rattle.js_resolver.specs.Pieces.{Piece, none, beside, after, closed, function_piece, one_value}
 use Rattle.js_resolver.specs.NodeForms.{method_of, is_division, begins_with_division, is_floor, floors_division, expr_node, declared_of, has_start, stmt_node}
 use Rattle.js_resolver.specs.Nodes.{expr_piece, expr_parts, form_parts, exprs_piece, arguments_piece, fields_piece, perhaps_piece, declarators_piece, start_piece, stmt_piece, stmt_parts, stmts_piece, item_piece, items_piece}
@@ -63,7 +63,7 @@ orderly_closed b line need form x h g =
     let e : length (x.nodes ++ node ∷ []) ≡ length x.nodes + length (node ∷ []) = length-append x.nodes (node ∷ []) in
     record { count = omega arith; below = (omega arith, tt); order = in_order-append b x.nodes (node ∷ []) h.order (g, tt) }
 
-pub orderly_function : (b need : ℕ) (ps : List Place) (spot : Spot) (names : List Name) (content : List ℕ → PlainContent) (x : Piece) → IsOrderly b need x → IsOrderly b 0 (function_piece ps spot names content x)
+pub orderly_function : (b need : ℕ) (ps : List Mention) (spot : Spot) (names : List Name) (content : List ℕ → PlainContent) (x : Piece) → IsOrderly b need x → IsOrderly b 0 (function_piece ps spot names content x)
 orderly_function b need ps spot names content x h = record { count = omega arith; below = tt; order = h.order }
 
 -- a function that is called as a method is a part
@@ -104,15 +104,15 @@ orderly_also b j k x y h g = orderly_fewer b j (j + k) (beside x y) (omega arith
 mutual
   unfolding expr_piece expr_parts form_parts exprs_piece arguments_piece fields_piece perhaps_piece declarators_piece start_piece stmt_piece stmt_parts stmts_piece
 
-  pub expr_orderly : (ps : List Place) (b : ℕ) (e : PlainExpr) → IsOrderly b 1 (expr_piece ps b e)
+  pub expr_orderly : (ps : List Mention) (b : ℕ) (e : PlainExpr) → IsOrderly b 1 (expr_piece ps b e)
   expr_orderly ps b (t.at parens line form) =
       let h = form_orderly ps b form in
       orderly_closed b line (form_need form) (expr_node ps form) (form_parts ps b form) h (kept_expr (λ k. k < after b (form_parts ps b form)) ps form (form_parts ps b form).parts h.count h.below)
 
-  pub parts_orderly : (ps : List Place) (b : ℕ) (e : PlainExpr) → IsOrderly b (expr_need e) (expr_parts ps b e)
+  pub parts_orderly : (ps : List Mention) (b : ℕ) (e : PlainExpr) → IsOrderly b (expr_need e) (expr_parts ps b e)
   parts_orderly ps b (t.at parens line form) = form_orderly ps b form
 
-  pub form_orderly : (ps : List Place) (b : ℕ) (form : PlainForm) → IsOrderly b (form_need form) (form_parts ps b form)
+  pub form_orderly : (ps : List Mention) (b : ℕ) (form : PlainForm) → IsOrderly b (form_need form) (form_parts ps b form)
   form_orderly ps b (t.number i) = orderly_none b
   form_orderly ps b (t.text text) = orderly_none b
   form_orderly ps b (t.truth v) = orderly_none b
@@ -140,12 +140,12 @@ mutual
   form_orderly ps b (t.arrow_block spot names ss) = orderly_function b 0 ps spot names n.statements (stmts_piece ps b ss) (stmts_orderly ps b ss)
   form_orderly ps b (t.function spot names ss) = orderly_function b 0 ps spot names n.statements (stmts_piece ps b ss) (stmts_orderly ps b ss)
 
-  pub exprs_orderly : (ps : List Place) (b : ℕ) (es : PlainExprs) → IsOrderly b 0 (exprs_piece ps b es)
+  pub exprs_orderly : (ps : List Mention) (b : ℕ) (es : PlainExprs) → IsOrderly b 0 (exprs_piece ps b es)
   exprs_orderly ps b t.no_exprs = orderly_none b
   exprs_orderly ps b (t.expr_in e es) =
       let x = expr_piece ps b e in orderly_fewer b 0 1 (beside x (exprs_piece ps (after b x) es)) (omega arith) (orderly_also b 1 0 x (exprs_piece ps (after b x) es) (expr_orderly ps b e) (exprs_orderly ps (after b x) es))
 
-  pub arguments_orderly : (ps : List Place) (b : ℕ) (opens : Bool) (es : PlainExprs) → (opens ≡ true → begins_with_division es ≡ true) → IsOrderly b (if opens then 2 else 0) (arguments_piece ps b opens es)
+  pub arguments_orderly : (ps : List Mention) (b : ℕ) (opens : Bool) (es : PlainExprs) → (opens ≡ true → begins_with_division es ≡ true) → IsOrderly b (if opens then 2 else 0) (arguments_piece ps b opens es)
   arguments_orderly ps b opens t.no_exprs d = no_arguments b opens d
   arguments_orderly ps b opens (t.expr_in e es) d =
       let x = if opens then expr_parts ps b e else expr_piece ps b e in
@@ -153,22 +153,22 @@ mutual
       (argument_head b opens (expr_piece ps b e) (expr_parts ps b e) (expr_need e) (λ h. division_need e (d h)) (expr_orderly ps b e) (parts_orderly ps b e))
       (exprs_orderly ps (after b x) es)
 
-  pub fields_orderly : (ps : List Place) (b : ℕ) (fs : PlainFields) → IsOrderly b 0 (fields_piece ps b fs)
+  pub fields_orderly : (ps : List Mention) (b : ℕ) (fs : PlainFields) → IsOrderly b 0 (fields_piece ps b fs)
   fields_orderly ps b t.no_fields = orderly_none b
   fields_orderly ps b (t.field_in key e fs) =
       let x = expr_piece ps b e in orderly_fewer b 0 1 (beside x (fields_piece ps (after b x) fs)) (omega arith) (orderly_also b 1 0 x (fields_piece ps (after b x) fs) (expr_orderly ps b e) (fields_orderly ps (after b x) fs))
 
-  pub perhaps_orderly : (ps : List Place) (b : ℕ) (e : PlainPerhaps) → IsOrderly b (truth_need (is_present e)) (perhaps_piece ps b e)
+  pub perhaps_orderly : (ps : List Mention) (b : ℕ) (e : PlainPerhaps) → IsOrderly b (truth_need (is_present e)) (perhaps_piece ps b e)
   perhaps_orderly ps b t.absent = orderly_none b
   perhaps_orderly ps b (t.present e) = expr_orderly ps b e
 
-  pub declarators_orderly : (ps : List Place) (b : ℕ) (ds : PlainDeclarators) → IsOrderly b (declared_need ds) (declarators_piece ps b ds)
+  pub declarators_orderly : (ps : List Mention) (b : ℕ) (ds : PlainDeclarators) → IsOrderly b (declared_need ds) (declarators_piece ps b ds)
   declarators_orderly ps b t.no_declarators = orderly_none b
   declarators_orderly ps b (t.declarator_in name value end ds) =
       let x = perhaps_piece ps b value in
       orderly_beside b (truth_need (is_present value)) (declared_need ds) x (declarators_piece ps (after b x) ds) (perhaps_orderly ps b value) (declarators_orderly ps (after b x) ds)
 
-  pub start_orderly : (ps : List Place) (b : ℕ) (s : PlainStart) → IsOrderly b (truth_need (has_start s)) (start_piece ps b s)
+  pub start_orderly : (ps : List Mention) (b : ℕ) (s : PlainStart) → IsOrderly b (truth_need (has_start s)) (start_piece ps b s)
   start_orderly ps b t.nothing = orderly_none b
   start_orderly ps b (t.declared line kind ds) =
       let x = declarators_piece ps b ds in
@@ -176,12 +176,12 @@ mutual
       orderly_closed b line (declared_need ds) (λ parts. n.declaration kind (declared_of ps ds parts)) x h (kept_declared (λ k. k < after b x) ps ds x.parts h.count h.below)
   start_orderly ps b (t.started e) = expr_orderly ps b e
 
-  pub stmt_orderly : (ps : List Place) (b : ℕ) (s : PlainStmt) → IsOrderly b 1 (stmt_piece ps b s)
+  pub stmt_orderly : (ps : List Mention) (b : ℕ) (s : PlainStmt) → IsOrderly b 1 (stmt_piece ps b s)
   stmt_orderly ps b (t.on line form) =
       let h = stmt_form_orderly ps b form in
       orderly_closed b line (stmt_need form) (stmt_node ps form) (stmt_parts ps b form) h (kept_stmt (λ k. k < after b (stmt_parts ps b form)) ps form (stmt_parts ps b form).parts h.count h.below)
 
-  pub stmt_form_orderly : (ps : List Place) (b : ℕ) (form : PlainStmtForm) → IsOrderly b (stmt_need form) (stmt_parts ps b form)
+  pub stmt_form_orderly : (ps : List Mention) (b : ℕ) (form : PlainStmtForm) → IsOrderly b (stmt_need form) (stmt_parts ps b form)
   stmt_form_orderly ps b t.empty = orderly_none b
   stmt_form_orderly ps b (t.block ss) = stmts_orderly ps b ss
   stmt_form_orderly ps b (t.declaration kind ds) = declarators_orderly ps b ds
@@ -208,17 +208,17 @@ mutual
   stmt_form_orderly ps b (t.return_nothing spot) = orderly_none b
   stmt_form_orderly ps b (t.return_of spot e) = expr_orderly ps b e
 
-  pub stmts_orderly : (ps : List Place) (b : ℕ) (ss : PlainStmts) → IsOrderly b 0 (stmts_piece ps b ss)
+  pub stmts_orderly : (ps : List Mention) (b : ℕ) (ss : PlainStmts) → IsOrderly b 0 (stmts_piece ps b ss)
   stmts_orderly ps b t.no_stmts = orderly_none b
   stmts_orderly ps b (t.stmt_in s ss) =
       let x = stmt_piece ps b s in orderly_fewer b 0 1 (beside x (stmts_piece ps (after b x) ss)) (omega arith) (orderly_also b 1 0 x (stmts_piece ps (after b x) ss) (stmt_orderly ps b s) (stmts_orderly ps (after b x) ss))
 
-pub item_orderly : (ps : List Place) (b : ℕ) (i : PlainItem) → IsOrderly b 0 (item_piece ps b i)
+pub item_orderly : (ps : List Mention) (b : ℕ) (i : PlainItem) → IsOrderly b 0 (item_piece ps b i)
 unfolding item_piece
 item_orderly ps b (t.statement spot s) = orderly_fewer b 0 1 (stmt_piece ps b s) (omega arith) (stmt_orderly ps b s)
 item_orderly ps b (t.function_of spot name names ss) = orderly_function b 0 ps spot names n.statements (stmts_piece ps b ss) (stmts_orderly ps b ss)
 
-pub items_orderly : (ps : List Place) (b : ℕ) (is : List PlainItem) → IsOrderly b 0 (items_piece ps b is)
+pub items_orderly : (ps : List Mention) (b : ℕ) (is : List PlainItem) → IsOrderly b 0 (items_piece ps b is)
 unfolding items_piece
 items_orderly ps b [] = orderly_none b
 items_orderly ps b (i ∷ is) = let x = item_piece ps b i in orderly_beside b 0 0 x (items_piece ps (after b x) is) (item_orderly ps b i) (items_orderly ps (after b x) is)
@@ -231,4 +231,4 @@ in_order-ordered i (x ∷ xs) h = and_from _ _ (every_all (λ k. nat_lt k i) (pa
 -- the parts of each node of a tree's program are smaller than the node
 pub program_ordered : (items : List PlainItem) → ordered 0 (program_of_tree items).nodes ≡ true
 unfolding program_of_tree
-program_ordered items = let x = items_piece (places items) 0 items in in_order-ordered 0 x.nodes (items_orderly (places items) 0 items).order
+program_ordered items = let x = items_piece (mentions items) 0 items in in_order-ordered 0 x.nodes (items_orderly (mentions items) 0 items).order

@@ -9,7 +9,7 @@ use Rattle.js_program.specs.declared.node.Variable.{Variable}
 use Rattle.js_program.specs.PlainProgram.{PlainDeclared, undefined, read, parts_of}
 use Rattle.js_names.specs.Entries.{is_present, own_of_start}
 use Rattle.js_names.specs.Forms.{called_builtin, value_builtin, is_undefined}
-use Rattle.js_names.specs.Places.{Place}
+use Rattle.js_names.specs.Mentions.{Mention}
 use Rattle.js_resolver.specs.Variables.{named_at}
 use Rattle.js_resolver.specs.Pieces.{part}
 use Rattle.js_resolver.specs.NodeForms.{fresh, method_of, floors_division, call_node, member_node, expr_node, perhaps_part, parts_after, declared_of, has_start, for_node, stmt_node}
@@ -95,7 +95,7 @@ kept_use P true v = tt
 kept_use P false v = tt
 
 -- an expression's node names its parts alone
-pub kept_expr : (P : ℕ → Type 0) (ps : List Place) (form : PlainForm) (xs : List ℕ) → form_need form ≤ length xs → Every P xs → Every P (parts_of (expr_node ps form xs))
+pub kept_expr : (P : ℕ → Type 0) (ps : List Mention) (form : PlainForm) (xs : List ℕ) → form_need form ≤ length xs → Every P xs → Every P (parts_of (expr_node ps form xs))
 kept_expr P ps (t.number i) xs l h = tt
 kept_expr P ps (t.text text) xs l h = tt
 kept_expr P ps (t.truth b) xs l h = tt
@@ -131,7 +131,7 @@ length_after : (b : Bool) (xs : List ℕ) → length xs ≤ truth_need b + lengt
 length_after true xs = length_drop-1 xs
 length_after false xs = omega arith
 
-pub kept_declared : (P : ℕ → Type 0) (ps : List Place) (ds : PlainDeclarators) (xs : List ℕ) → declared_need ds ≤ length xs → Every P xs → Every P (filter_map (λ (d : PlainDeclared). d.value) (declared_of ps ds xs))
+pub kept_declared : (P : ℕ → Type 0) (ps : List Mention) (ds : PlainDeclarators) (xs : List ℕ) → declared_need ds ≤ length xs → Every P xs → Every P (filter_map (λ (d : PlainDeclared). d.value) (declared_of ps ds xs))
 kept_declared P ps t.no_declarators xs l h = tt
 kept_declared P ps (t.declarator_in name (t.present e) end ds) xs l h =
     let m : declared_need ds ≤ length (drop 1 xs) = omega (arith, length_drop-1 xs) in (every_part P 0 xs (omega arith) h, kept_declared P ps ds (drop 1 xs) m (every_drop P 1 xs h))
@@ -156,7 +156,7 @@ kept_for P slots a b c xs l h =
     (every_part P 0 rest (omega arith) hr, tt)
 
 -- and so does a statement's
-pub kept_stmt : (P : ℕ → Type 0) (ps : List Place) (form : PlainStmtForm) (xs : List ℕ) → stmt_need form ≤ length xs → Every P xs → Every P (parts_of (stmt_node ps form xs))
+pub kept_stmt : (P : ℕ → Type 0) (ps : List Mention) (form : PlainStmtForm) (xs : List ℕ) → stmt_need form ≤ length xs → Every P xs → Every P (parts_of (stmt_node ps form xs))
 kept_stmt P ps t.empty xs l h = tt
 kept_stmt P ps (t.block ss) xs l h = h
 kept_stmt P ps (t.declaration kind ds) xs l h = kept_declared P ps ds xs l h

@@ -1,4 +1,4 @@
--- A program whose places fit is sound.
+-- A program whose mentions fit is sound.
 use Rattle.std.proofs.Common.{◌≡◌, ◌∙◌, ℕ, ◌+◌, ◌<◌, ◌≤◌, List, [], ◌∷◌, refl, ap, subst, length, map, arith, Option, Some, None, Bool, true, false, if◌then◌else◌, nat_eq}
 use Rattle.std.proofs.lemmas.Bool.{le-leb, and_from}
 use Rattle.std.specs.Prelude.{option_map, slice_get}
@@ -6,11 +6,11 @@ use Rattle.std.specs.List.{list_all, flat_map}
 use Rattle.js_tree.specs.Plain.{PlainItem, statement, function_of}
 use Rattle.js_program.specs.PlainProgram.{PlainNode, PlainBody, PlainProgram, PlainConstant, of_function, undeclared, unset}
 use Rattle.js_program.specs.Sound.{node_fits, captures_nothing, constant_fits, IsSound}
-use Rattle.js_names.specs.declared.place.Declared.{Declared}
+use Rattle.js_names.specs.declared.mention.Declared.{Declared}
 use Rattle.js_names.specs.Entries.{top}
 use Rattle.js_names.specs.Scopes.{Scope, program_scope}
-use Rattle.js_names.specs.Sites.{item_sites}
-use Rattle.js_names.specs.Places.{Place, places, functions_of, is_var}
+use Rattle.js_names.specs.Unresolved.{item_mentions}
+use Rattle.js_names.specs.Mentions.{Mention, mentions, functions_of, is_var}
 use Rattle.js_names.specs.Slots.{assigned_in, captures, constants_of, slots_of}
 use Rattle.js_resolver.specs.Variables.{code_at, body_of, first_some, around_of, capture_slots, slots_among}
 use Rattle.js_resolver.specs.Nodes.{items_piece}
@@ -20,7 +20,7 @@ use Rattle.js_resolver.proofs.sound.Order.{program_ordered}
 use Rattle.js_resolver.proofs.sound.Lists.{vars_fit}
 use Rattle.js_resolver.proofs.sound.Nodes.{slots_in, AllFine, fine_left, fine_right, IsCovered, IsWithin, IsGood, NodeFits, length_slots, items_good}
 
--- the scopes of the places of a program
+-- the scopes of the mentions of a program
 abbrev pub program_scopes : List PlainItem → List Scope
 program_scopes items = program_scope items ∷ []
 
@@ -42,14 +42,14 @@ there_fits p v (Some d) c h =
       | false ↦ λ k. cc
     ]
     in
-    cases (nat_eq d.place v) (is_var d.role) h
+    cases (nat_eq d.offset v) (is_var d.role) h
 
-places_fit : (p : PlainProgram) (v : ℕ) (ps : List Place) → constant_fits p (first_some undeclared (map (λ (q : Place). constant_there v q.declared) ps)) ≡ true
-places_fit p v [] = refl
-places_fit p v (q ∷ qs) = first_fits p undeclared (constant_there v q.declared) (map (λ (q : Place). constant_there v q.declared) qs) (there_fits p v q.declared) (places_fit p v qs)
+mentions_fit : (p : PlainProgram) (v : ℕ) (ps : List Mention) → constant_fits p (first_some undeclared (map (λ (q : Mention). constant_there v q.declared) ps)) ≡ true
+mentions_fit p v [] = refl
+mentions_fit p v (q ∷ qs) = first_fits p undeclared (constant_there v q.declared) (map (λ (q : Mention). constant_there v q.declared) qs) (there_fits p v q.declared) (mentions_fit p v qs)
 
 -- the declared functions copy nothing
-abbrev pub AllAlone : List Place → List PlainItem → Type 0
+abbrev pub AllAlone : List Mention → List PlainItem → Type 0
 AllAlone ps [] = Unit {0}
 AllAlone ps (statement spot s ∷ is) = AllAlone ps is
 AllAlone ps (function_of spot name names ss ∷ is) = (captures (assigned_in ps) spot.at ps ≡ []) × AllAlone ps is
@@ -58,8 +58,8 @@ copies_nothing : (o : Option PlainBody) (xs : List ℕ) → option_map (λ (b : 
 copies_nothing None xs e h = cc
 copies_nothing (Some b) xs e h = let d : b.captures ≡ xs = cc in ap (λ (z : List ℕ). nat_eq (length z) 0) (d ∙ h)
 
-named_fits : (p : PlainProgram) (ps : List Place) (v : ℕ) (scopes : List Scope) (i : PlainItem) → AllAlone ps (i ∷ []) → AllFine p ps (item_sites scopes i) → (c : PlainConstant) → function_named ps v i ≡ Some c → constant_fits p c ≡ true
-unfolding item_sites
+named_fits : (p : PlainProgram) (ps : List Mention) (v : ℕ) (scopes : List Scope) (i : PlainItem) → AllAlone ps (i ∷ []) → AllFine p ps (item_mentions scopes i) → (c : PlainConstant) → function_named ps v i ≡ Some c → constant_fits p c ≡ true
+unfolding item_mentions
 named_fits p ps v scopes (statement spot s) w h c e = cc
 named_fits p ps v scopes (function_of spot name names ss) w h c e =
     let nothing : capture_slots ps spot.at ≡ [] = ap (slots_among (slots_of (assigned_in ps) (around_of ps spot.at) ps)) w.0 in
@@ -67,33 +67,33 @@ named_fits p ps v scopes (function_of spot name names ss) w h c e =
     elim (nat_eq name.spot.at v) as (λ b. (if b then Some (of_function (code_at ps spot.at)) else None) ≡ Some c → constant_fits p c ≡ true)
     [ true ↦ λ k. let d : of_function (code_at ps spot.at) ≡ c = cc in subst (λ z. constant_fits p z ≡ true) d there | false ↦ λ k. cc ] e
 
-alone_first : (ps : List Place) (i : PlainItem) (is : List PlainItem) → AllAlone ps (i ∷ is) → AllAlone ps (i ∷ [])
+alone_first : (ps : List Mention) (i : PlainItem) (is : List PlainItem) → AllAlone ps (i ∷ is) → AllAlone ps (i ∷ [])
 alone_first ps (statement spot s) is h = tt
 alone_first ps (function_of spot name names ss) is h = (h.0, tt)
 
-alone_rest : (ps : List Place) (i : PlainItem) (is : List PlainItem) → AllAlone ps (i ∷ is) → AllAlone ps is
+alone_rest : (ps : List Mention) (i : PlainItem) (is : List PlainItem) → AllAlone ps (i ∷ is) → AllAlone ps is
 alone_rest ps (statement spot s) is h = h
 alone_rest ps (function_of spot name names ss) is h = h.1
 
-items_named : (p : PlainProgram) (ps : List Place) (v : ℕ) (scopes : List Scope) (d : PlainConstant) (is : List PlainItem) → AllAlone ps is → constant_fits p d ≡ true → AllFine p ps (flat_map (item_sites scopes) is)
+items_named : (p : PlainProgram) (ps : List Mention) (v : ℕ) (scopes : List Scope) (d : PlainConstant) (is : List PlainItem) → AllAlone ps is → constant_fits p d ≡ true → AllFine p ps (flat_map (item_mentions scopes) is)
     → constant_fits p (first_some d (map (function_named ps v) is)) ≡ true
 items_named p ps v scopes d [] w k h = k
 items_named p ps v scopes d (i ∷ is) w k h =
-    first_fits p d (function_named ps v i) (map (function_named ps v) is) (named_fits p ps v scopes i (alone_first ps i is w) (fine_left p ps (item_sites scopes i) (flat_map (item_sites scopes) is) h))
-    (items_named p ps v scopes d is (alone_rest ps i is w) k (fine_right p ps (item_sites scopes i) (flat_map (item_sites scopes) is) h))
+    first_fits p d (function_named ps v i) (map (function_named ps v) is) (named_fits p ps v scopes i (alone_first ps i is w) (fine_left p ps (item_mentions scopes i) (flat_map (item_mentions scopes) is) h))
+    (items_named p ps v scopes d is (alone_rest ps i is w) k (fine_right p ps (item_mentions scopes i) (flat_map (item_mentions scopes) is) h))
 
-constants_fit : (p : PlainProgram) (items : List PlainItem) (ps : List Place) (vs : List ℕ) → AllAlone ps items → AllFine p ps (flat_map (item_sites (program_scopes items)) items) → list_all (constant_fits p) (map (constant_of items ps) vs) ≡ true
+constants_fit : (p : PlainProgram) (items : List PlainItem) (ps : List Mention) (vs : List ℕ) → AllAlone ps items → AllFine p ps (flat_map (item_mentions (program_scopes items)) items) → list_all (constant_fits p) (map (constant_of items ps) vs) ≡ true
 constants_fit p items ps [] w h = refl
 constants_fit p items ps (v ∷ vs) w h =
-    and_from _ _ (items_named p ps v (program_scopes items) (first_some undeclared (map (λ (q : Place). constant_there v q.declared) ps)) items w (places_fit p v ps) h) (constants_fit p items ps vs w h)
+    and_from _ _ (items_named p ps v (program_scopes items) (first_some undeclared (map (λ (q : Mention). constant_there v q.declared) ps)) items w (mentions_fit p v ps) h) (constants_fit p items ps vs w h)
 
--- A program whose places fit is sound: every number of it is in range.
+-- A program whose mentions fit is sound: every number of it is in range.
 pub program_sound : (items : List PlainItem) → length (program_of_tree items).nodes < 4294967296 → length (program_of_tree items).functions < 4294967296 → length (program_of_tree items).constants < 4294967296
-    → IsCovered (program_of_tree items) (places items) (flat_map (item_sites (program_scopes items)) items) → AllAlone (places items) items → length (captures (assigned_in (places items)) top (places items)) ≤ slots_in (places items) top → IsSound (program_of_tree items)
+    → IsCovered (program_of_tree items) (mentions items) (flat_map (item_mentions (program_scopes items)) items) → AllAlone (mentions items) items → length (captures (assigned_in (mentions items)) top (mentions items)) ≤ slots_in (mentions items) top → IsSound (program_of_tree items)
 unfolding program_of_tree body_of
 program_sound items ln lf lc c alone room =
     let p = program_of_tree items in
-    let ps = places items in
+    let ps = mentions items in
     let x = items_piece ps 0 items in
     let stands : (i : ℕ) (n : PlainNode) → slice_get x.nodes i ≡ Some n → slice_get p.nodes (0 + i) ≡ Some n = λ i n e. subst (λ k. slice_get x.nodes k ≡ Some n) (omega arith) e in
     let g : IsGood p ps top x = items_good p ps (program_scopes items) 0 items (within_program items) c stands in

@@ -7,17 +7,17 @@ use Rattle.std.specs.List.{flat_map, prefix_len}
 use Rattle.std.proofs.lemmas.List.Sums.{fold-append}
 use Rattle.js_program.specs.PlainProgram.{PlainBody, PlainProgram}
 use Rattle.js_program.specs.Sound.{all_below, captures_fit, function_fits}
-use Rattle.js_names.specs.declared.place.Role.{Role}
-use Rattle.js_names.specs.declared.place.Role.TheVariants.{Parameter}
-use Rattle.js_names.specs.declared.place.What.{What}
-use Rattle.js_names.specs.Places.{Place}
+use Rattle.js_names.specs.declared.mention.Role.{Role}
+use Rattle.js_names.specs.declared.mention.Role.TheVariants.{Parameter}
+use Rattle.js_names.specs.declared.mention.What.{What}
+use Rattle.js_names.specs.Mentions.{Mention}
 use Rattle.js_names.specs.Slots.{held_by, inside, is_among, joins, first_uses, assigned_in, holdings, slots_of, captures, parameter_in, parameter_at, captures_in, variable_in}
 use Rattle.js_resolver.specs.Variables.{index_in, code_at, capture_slots}
 use Rattle.js_names.specs.Slots.{functions_in}
 use Rattle.js_resolver.proofs.sound.Functions.{captures_in_order}
 use Rattle.js_names.proofs.HeldLemmas.{held-append}
 use Rattle.js_resolver.proofs.sound.Lists.{In, in-first_uses}
-use Rattle.js_resolver.proofs.sound.Places.{IsDeclared, ArePlaced, IsCopied, captured, held-place}
+use Rattle.js_resolver.proofs.sound.Mentions.{IsDeclared, AreSettled, IsCopied, captured, held-mention}
 use Rattle.js_resolver.proofs.sound.Nodes.{slots_in, parameter_count}
 
 abbrev pub NoRepeats : List ℕ → Type 0
@@ -51,7 +51,7 @@ copies-fit slots None xs e h = cc
 copies-fit slots (Some b) xs e h = let d : b.captures ≡ xs = cc in subst (λ z. all_below slots z ≡ true) (sym d) h
 
 -- a function that begins is there
-pub function_copies : (p : PlainProgram) (ps : List Place) (f : ℕ) → captures_in_order p.functions ≡ map (capture_slots ps) (functions_in ps) → In f (functions_in ps)
+pub function_copies : (p : PlainProgram) (ps : List Mention) (f : ℕ) → captures_in_order p.functions ≡ map (capture_slots ps) (functions_in ps) → In f (functions_in ps)
     → option_map (λ (c : PlainBody). c.captures) (slice_get p.functions (code_at ps f)) ≡ Some (capture_slots ps f)
 unfolding code_at
 function_copies p ps f e h =
@@ -59,7 +59,7 @@ function_copies p ps f e h =
     let i = index_in fs f in
     sym (slice_get-map (λ (c : PlainBody). c.captures) p.functions i) ∙ (ap (λ xs. slice_get xs i) e ∙ (slice_get-map (capture_slots ps) fs i ∙ ap (option_map (capture_slots ps)) (at-index f fs h)))
 
-pub function_there : (p : PlainProgram) (ps : List Place) (slots f : ℕ) → captures_in_order p.functions ≡ map (capture_slots ps) (functions_in ps) → In f (functions_in ps) → all_below slots (capture_slots ps f) ≡ true → function_fits p slots (code_at ps f) ≡ true
+pub function_there : (p : PlainProgram) (ps : List Mention) (slots f : ℕ) → captures_in_order p.functions ≡ map (capture_slots ps) (functions_in ps) → In f (functions_in ps) → all_below slots (capture_slots ps f) ≡ true → function_fits p slots (code_at ps f) ≡ true
 function_there p ps slots f e h fits = copies-fit slots (slice_get p.functions (code_at ps f)) (capture_slots ps f) (function_copies p ps f e h) fits
 
 -- lists with no element twice
@@ -105,8 +105,8 @@ inside-apart owner f (g ∷ gs) h e =
     in
     cases (nat_eq g owner) refl h
 
--- the parameter of a function that a place declares
-parameter-held : (q : Place) (f v : ℕ) (w : What) → q.what ≡ w → In v (held_by f (parameter_at w q)) → (role : Role) × (q.what ≡ What.Declares role) × (q.around.owner ≡ f) × (v ≡ q.name.spot.at)
+-- the parameter of a function that a mention declares
+parameter-held : (q : Mention) (f v : ℕ) (w : What) → q.what ≡ w → In v (held_by f (parameter_at w q)) → (role : Role) × (q.what ≡ What.Declares role) × (q.around.owner ≡ f) × (v ≡ q.name.spot.at)
 parameter-held q f v (What.Declares Parameter) e h =
     let cases : (b : Bool) → (nat_eq q.around.owner f ≡ b) → In v (if b then q.name.spot.at ∷ [] else []) → (role : Role) × (q.what ≡ What.Declares role) × (q.around.owner ≡ f) × (v ≡ q.name.spot.at) =
     λ b. elim b as (λ b. (nat_eq q.around.owner f ≡ b) → In v (if b then q.name.spot.at ∷ [] else []) → (role : Role) × (q.what ≡ What.Declares role) × (q.around.owner ≡ f) × (v ≡ q.name.spot.at))
@@ -116,7 +116,7 @@ parameter-held q f v (What.Declares Parameter) e h =
 parameter-held q f v _ e h = absurd h
 
 -- the slots of a function hold its parameters and what it copies
-pub function_room : (ps : List Place) (f : ℕ) → ArePlaced ps → NoRepeats (held_by f (flat_map parameter_in ps)) → parameter_count ps f + length (captures (assigned_in ps) f ps) ≤ slots_in ps f
+pub function_room : (ps : List Mention) (f : ℕ) → AreSettled ps → NoRepeats (held_by f (flat_map parameter_in ps)) → parameter_count ps f + length (captures (assigned_in ps) f ps) ≤ slots_in ps f
 unfolding captures slots_of holdings
 function_room ps f h alone =
     let assigned = assigned_in ps in
@@ -128,11 +128,11 @@ function_room ps f h alone =
     in
     let apart : (v : ℕ) → In v ys → In v xs → ⊥ = λ v m n.
     let c : IsCopied ps f v = captured ps f v (in-first_uses v ys m) in
-    let q = held-place parameter_in f v ps n in
+    let q = held-mention parameter_in f v ps n in
     let own = parameter-held q.0 f v q.0.what refl q.2 in
     let there = (h.known q.0 q.1).declares own.0 own.1 in
-    let d : IsDeclared ps c.declared = ((h.known c.place c.has).found c.declared c.is).0 in
-    let same : q.0.around.owner ≡ d.place.around.owner = ap (λ (z : Place). z.around.owner) (h.apart q.0 d.place q.1 d.has (ap is_some there.1) d.named (sym own.3 ∙ (c.variable ∙ sym d.spot))) in
-    inside-apart c.declared.owner f c.place.functions c.within (sym own.2 ∙ (same ∙ d.owner))
+    let d : IsDeclared ps c.declared = ((h.known c.mention c.has).found c.declared c.is).0 in
+    let same : q.0.around.owner ≡ d.mention.around.owner = ap (λ (z : Mention). z.around.owner) (h.apart q.0 d.mention q.1 d.has (ap is_some there.1) d.named (sym own.3 ∙ (c.variable ∙ sym d.spot))) in
+    inside-apart c.declared.owner f c.mention.functions c.within (sym own.2 ∙ (same ∙ d.owner))
     in
     subst (λ z. length xs + length (first_uses ys) ≤ length (first_uses z)) (sym all) (room-for xs ys zs alone apart)

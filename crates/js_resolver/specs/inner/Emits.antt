@@ -12,7 +12,7 @@ use Rattle.js_program.specs.declared.node.NodeForm.{NodeForm}
 use Rattle.js_program.specs.declared.node.Declared.{Declared}
 use Rattle.js_program.specs.PlainProgram.{PlainNode, PlainNodeForm, PlainBody}
 use Rattle.js_program.specs.Views.{plain_node, plain_node_form, plain_body, plain_declared}
-use Rattle.js_names.specs.Places.{Place}
+use Rattle.js_names.specs.Mentions.{Mention}
 use Rattle.js_names.specs.Forms.{called_builtin}
 use Rattle.js_resolver.specs.declared.emit.Called.{Called}
 use Rattle.js_resolver.specs.declared.emit.Called.TheVariants as C
@@ -53,14 +53,14 @@ pub record Forms (old new : Emitter) (node : NodeForm) (shape : List ℕ → Pla
   pub adds : Adds old new piece
   pub form : plain_node_form node ≡ shape piece.parts
 
-abbrev pub FormsExpr : List Place → Emitter → Emitter → NodeForm → PlainForm → Type 0
+abbrev pub FormsExpr : List Mention → Emitter → Emitter → NodeForm → PlainForm → Type 0
 FormsExpr ps old new form f = Forms old new form (expr_node ps f) (form_parts ps (count old) f)
 
-abbrev pub FormsStmt : List Place → Emitter → Emitter → NodeForm → PlainStmtForm → Type 0
+abbrev pub FormsStmt : List Mention → Emitter → Emitter → NodeForm → PlainStmtForm → Type 0
 FormsStmt ps old new form f = Forms old new form (stmt_node ps f) (stmt_parts ps (count old) f)
 
 -- declared variables with the numbers of their values
-pub record EmitsDeclarators (ps : List Place) (old new : Emitter) (declared : List Declared)
+pub record EmitsDeclarators (ps : List Mention) (old new : Emitter) (declared : List Declared)
     (ds : List Declarator) : Type 0 where
   pub adds : Adds old new (declarators_piece ps (count old) (declarators_of (map plain_declarator ds)))
   pub declared_are :
@@ -88,7 +88,8 @@ is_divide Divide = true
 is_divide _ = false
 
 -- a call of a form of the language
-abbrev pub FormsBuiltin : List Place → Emitter → Emitter → NodeForm → Builtin → PlainExprs → Type 0
+abbrev pub FormsBuiltin :
+    List Mention → Emitter → Emitter → NodeForm → Builtin → PlainExprs → Type 0
 FormsBuiltin ps old new form f es =
     Forms old new form (call_node (Some f) None (floors_division (Some f) es))
     (arguments_piece ps (count old) (floors_division (Some f) es) es)
@@ -111,29 +112,29 @@ parts_in (C.Method i word) = i ∷ []
 parts_in (C.Other i) = i ∷ []
 
 -- a method's object, or the whole of what is called
-abbrev pub called_piece : List Place → ℕ → PlainExpr → Piece
+abbrev pub called_piece : List Mention → ℕ → PlainExpr → Piece
 called_piece ps b e = if is_some (method_of e) then expr_parts ps b e else expr_piece ps b e
 
-abbrev pub callee_piece : List Place → ℕ → PlainExpr → Piece
+abbrev pub callee_piece : List Mention → ℕ → PlainExpr → Piece
 callee_piece ps b e = if is_some (called_builtin e) then none else called_piece ps b e
 
-pub record EmitsCalled (ps : List Place) (old new : Emitter) (called : Called)
+pub record EmitsCalled (ps : List Mention) (old new : Emitter) (called : Called)
     (e : PlainExpr) : Type 0 where
   pub emits : Emits old new (parts_in called) (called_piece ps (count old) e)
   pub builtin : builtin_in called ≡ None
   pub word : word_in called ≡ method_of e
 
-pub record EmittedCallee (ps : List Place) (old new : Emitter) (called : Called)
+pub record EmittedCallee (ps : List Mention) (old new : Emitter) (called : Called)
     (e : PlainExpr) : Type 0 where
   pub emits : Emits old new (parts_in called) (callee_piece ps (count old) e)
   pub builtin : builtin_in called ≡ called_builtin e
   pub word : called_builtin e ≡ None → word_in called ≡ method_of e
 
-unfoldable pub EmitsCallee : List Place → Emitter → Emitter → Called → PlainExpr → Type 0
+unfoldable pub EmitsCallee : List Mention → Emitter → Emitter → Called → PlainExpr → Type 0
 EmitsCallee ps old new called e = EmittedCallee ps old new called e
 
 -- the arguments of a call, after what is called
-abbrev pub FormsCall : List Place → Emitter → Emitter → NodeForm → Called → PlainExprs → Type 0
+abbrev pub FormsCall : List Mention → Emitter → Emitter → NodeForm → Called → PlainExprs → Type 0
 FormsCall ps old new form called es =
     Forms old new form
     (λ parts. call_node (builtin_in called) (word_in called)

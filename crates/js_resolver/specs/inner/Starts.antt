@@ -4,7 +4,7 @@ use Rattle.indexmap.specs.IndexMap.{get}
 use Rattle.js_program.specs.declared.node.ConstantStart.{ConstantStart}
 use Rattle.js_program.specs.PlainProgram.{PlainConstant}
 use Rattle.js_program.specs.Views.{plain_constant}
-use Rattle.js_names.specs.Places.{or_else}
+use Rattle.js_names.specs.Mentions.{or_else}
 use Rattle.js_resolver.specs.inner.Tables.{Known}
 
 abbrev pub start_in : Known ConstantStart → ℕ → Option PlainConstant

@@ -1,7 +1,7 @@
 use Rattle.std.proofs.Common.{◌∙◌, ap, sym, subst, Some}
 use Rattle.std.specs.Slice.{IsItemAt}
 use Rattle.js_names.specs.Slots.{holds_all, inside}
-use Rattle.js_names.specs.Views.{place_of}
+use Rattle.js_names.specs.Views.{mention_of}
 use Rattle.js_names.proofs.HeldLemmas.{made_captures}
 use Rattle.js_names.proofs.holdings.is_made.Goals as goal
 
@@ -14,6 +14,6 @@ returns c = λ t.
       found.3.0,
       found.1,
       c.makes.ensures t
-          ∙ (ap (λ fs. holds_all d.place (inside d.owner fs)) (c.as_slice.ensures.value ∙ ap (λ v. v.items) c.deref.ensures)
-          ∙ made_captures c.args.assigned.now.keys (place_of c.args.place.now) d c.in-Some.is (sym c.copies.ensures ∙ c.if-copies.true)),
+          ∙ (ap (λ fs. holds_all d.offset (inside d.owner fs)) (c.as_slice.ensures.value ∙ ap (λ v. v.items) c.deref.ensures)
+          ∙ made_captures c.args.assigned.now.keys (mention_of c.args.mention.now) d c.in-Some.is (sym c.copies.ensures ∙ c.if-copies.true)),
     )

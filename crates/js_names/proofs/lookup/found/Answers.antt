@@ -1,5 +1,5 @@
 use Rattle.std.proofs.Common.{◌≡◌, ◌∙◌, sym, ap, arith, take}
-use Rattle.js_names.specs.Places.{found}
+use Rattle.js_names.specs.Mentions.{found}
 use Rattle.js_names.specs.Views.{scopes_of}
 use Rattle.js_names.proofs.Stacks.{found_down, found_empty, found_some, found_none}
 use Rattle.js_names.proofs.lookup.found.Goals as goal

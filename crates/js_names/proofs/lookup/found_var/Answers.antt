@@ -1,6 +1,6 @@
 use Rattle.std.proofs.Common.{◌≡◌, ◌∙◌, sym, ap, arith, take}
 use Rattle.js_data.proofs.Shared.{if_true, if_false}
-use Rattle.js_names.specs.Places.{found_var}
+use Rattle.js_names.specs.Mentions.{found_var}
 use Rattle.js_names.specs.Views.{scopes_of}
 use Rattle.js_names.proofs.Stacks.{found_var_down, found_var_empty}
 use Rattle.js_names.proofs.lookup.found_var.Goals as goal

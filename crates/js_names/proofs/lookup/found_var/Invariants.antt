@@ -1,5 +1,5 @@
 use Rattle.std.proofs.Common.{◌≡◌, ◌≤◌, length, take}
-use Rattle.js_names.specs.Places.{found_var}
+use Rattle.js_names.specs.Mentions.{found_var}
 use Rattle.js_names.specs.Views.{scopes_of}
 use Rattle.js_names.proofs.lookup.found_var.Given as goal
 

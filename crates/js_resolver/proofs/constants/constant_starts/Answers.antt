@@ -7,5 +7,5 @@ use Rattle.js_resolver.proofs.constants.constant_starts.Goals as goal
 
 pub returns : goal.returns
 returns c =
-    if_starts c.starts_of.result c.args.tables.now c.args.items.now c.places.result.now c.new-starts.result c.note_items.new.starts c.note_places.new.starts c.constants.result.now (λ q. ap (λ es. option_map plain_constant (lookup (nat_eq q) es)) c.new-starts.ensures.empty) c.places.ensures c.in_ok-note_items.ensures c.in_ok-note_places.ensures c.constants.ensures
+    if_starts c.starts_of.result c.args.tables.now c.args.items.now c.mentions.result.now c.new-starts.result c.note_items.new.starts c.note_mentions.new.starts c.constants.result.now (λ q. ap (λ es. option_map plain_constant (lookup (nat_eq q) es)) c.new-starts.ensures.empty) c.mentions.ensures c.in_ok-note_items.ensures c.in_ok-note_mentions.ensures c.constants.ensures
     c.starts_of.ensures

@@ -1,19 +1,19 @@
--- What the rules ask of a place: the declaration that its name stands for, and whether it clashes with an
--- earlier one.
+-- Mentions, looked up: the declaration that the name of each stands for, and whether it clashes with an earlier one.
 use Rattle.std.specs.Prelude.{ℕ, Bool, true, false, not, ◌&&◌, ◌||◌, nat_lt, List, [], ◌∷◌, ◌++◌, Option, Some, None, map, if◌then◌else◌}
 use Rattle.js_tree.specs.declared.tree.Name.{Name}
 use Rattle.js_tree.specs.Plain.{PlainItem}
-use Rattle.js_names.specs.declared.place.Role.{Role}
-use Rattle.js_names.specs.declared.place.Role.TheVariants.{Parameter, Const, Var, Function}
-use Rattle.js_names.specs.declared.place.Declared.{Declared}
-use Rattle.js_names.specs.declared.place.What.{What}
-use Rattle.js_names.specs.declared.place.What.TheVariants.{Declares, Reads, Assigns}
-use Rattle.js_names.specs.declared.place.Around.{Around}
+use Rattle.js_names.specs.declared.mention.Role.{Role}
+use Rattle.js_names.specs.declared.mention.Role.TheVariants.{Parameter, Const, Var, Function}
+use Rattle.js_names.specs.declared.mention.Declared.{Declared}
+use Rattle.js_names.specs.declared.mention.What.{What}
+use Rattle.js_names.specs.declared.mention.What.TheVariants.{Declares, Reads, Assigns}
+use Rattle.js_names.specs.declared.mention.Around.{Around}
 use Rattle.js_names.specs.Scopes.{Scope}
 use Rattle.js_names.specs.Forms.{is_reserved}
-use Rattle.js_names.specs.Sites.{Site, program_sites}
+use Rattle.js_names.specs.Unresolved.{Unresolved, unresolved_mentions}
 
-pub record Place : Type 0 where
+-- where a name stands in the text, or a word of the language that has rules, with what the rules ask of it
+pub record Mention : Type 0 where
   pub what : What
   pub name : Name
   pub around : Around
@@ -49,7 +49,7 @@ is_function _ = false
 abbrev pub earlier : Option Declared → Option Declared → Option Declared
 earlier None o = o
 earlier (Some d) None = Some d
-earlier (Some d) (Some e) = if nat_lt e.place d.place then Some e else Some d
+earlier (Some d) (Some e) = if nat_lt e.offset d.offset then Some e else Some d
 
 -- the declaration of a name in one scope, the first where there are more: a `var` belongs to the function,
 -- and not to a block in it
@@ -76,7 +76,7 @@ functions_of [] = []
 functions_of (s ∷ ss) = owner_in s ++ functions_of ss
 
 abbrev pub is_earlier : Option Declared → ℕ → Bool
-is_earlier o p = test_of o (λ d. nat_lt d.place p)
+is_earlier o p = test_of o (λ d. nat_lt d.offset p)
 
 -- the innermost scope declares the name earlier, itself or by a `var` in it
 unfoldable pub repeated : List Scope → List ℕ → ℕ → Bool
@@ -87,7 +87,7 @@ repeated (s ∷ ss) q p = is_earlier (s.own q) p || is_earlier (s.vars q) p
 unfoldable pub blocked : List Scope → List ℕ → ℕ → Bool
 blocked [] q p = false
 blocked (s ∷ ss) q p =
-    test_of (s.own q) (λ d. nat_lt d.place p && not (is_parameter d.role))
+    test_of (s.own q) (λ d. nat_lt d.offset p && not (is_parameter d.role))
     || (not s.whole && blocked ss q p)
 
 abbrev pub clashes : What → List Scope → Name → Bool
@@ -103,8 +103,9 @@ declared_at Reads scopes q = found scopes q
 declared_at Assigns scopes q = found scopes q
 declared_at _ scopes q = None
 
-unfoldable pub see : Site → Place
-see s = record {
+-- a mention, its name looked up in the scopes around it
+unfoldable pub look_up : Unresolved → Mention
+look_up s = record {
   what = s.what;
   name = s.name;
   around = s.around;
@@ -113,6 +114,6 @@ see s = record {
   clashes = clashes s.what s.scopes s.name;
 }
 
--- the places of a program in text order
-unfoldable pub places : List PlainItem → List Place
-places items = map see (program_sites items)
+-- the mentions of a program in text order
+unfoldable pub mentions : List PlainItem → List Mention
+mentions items = map look_up (unresolved_mentions items)

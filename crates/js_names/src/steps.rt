@@ -1,15 +1,15 @@
-//! Places, as a walk meets them.
+//! The steps of a walk: mentions that it adds, looked up in its scopes, and scopes that it enters and leaves.
 ghost use Rattle.std.specs.Prelude.{◌≡◌, ◌++◌, IfOk, OnOk};
 ghost use Rattle.std.specs.Arc.{arc_value};
-ghost use Rattle.js_names.specs.Sites.{site, read_site, assign_site, begin_site, parameter_sites, in_function, in_loop, declared_role, word_at};
+ghost use Rattle.js_names.specs.Unresolved.{one_mention, read_mention, assign_mention, begin_mention, parameter_mentions, in_function, in_loop, declared_role, word_at};
 ghost use Rattle.js_names.specs.Scopes.{for_of_role};
-ghost use Rattle.js_names.specs.Places.{see, functions_of, owner_in};
-ghost use Rattle.js_names.specs.Views.{place_of, scope_of, scopes_of};
+ghost use Rattle.js_names.specs.Mentions.{look_up, functions_of, owner_in};
+ghost use Rattle.js_names.specs.Views.{mention_of, scope_of, scopes_of};
 ghost use Rattle.js_names.specs.inner.Walks.{Adds, Entered, Left, scopes_in};
 
 use crate::forms::{is_reserved, is_undefined};
 use crate::lookup::{clashes, declared_at};
-use crate::place::{Around, Role, Seen, What, copy_of, word_at};
+use crate::mention::{Around, Mention, Role, What, copy_of, word_at};
 use crate::scope::{Scope, Walk};
 use js_tree::{DeclareKind, Name, Spot, is_object};
 use std::alloc::{AllocError, Global};
@@ -39,39 +39,39 @@ fn functions_of(alloc: Global, scopes: &[Scope]) -> Result<Vec<u32>, AllocError>
     Ok(functions)
 }
 
-/// These functions, shared with the place before where they are those around it.
+/// These functions, shared with the mention before where they are those around it.
 fn shared(
     alloc: Global,
     functions: Vec<u32>,
-    before: Option<&Seen>,
+    before: Option<&Mention>,
 ) -> Result<Arc<Vec<u32>>, AllocError>
     ensures { IfOk result (λ fs. (arc_value fs).items ≡ functions.items) }
 {
-    if let Some(seen) = before
-        && seen.functions.as_slice() == functions.as_slice()
+    if let Some(before) = before
+        && before.functions.as_slice() == functions.as_slice()
     {
-        return seen.functions.clone();
+        return before.functions.clone();
     }
     Ok(Arc::new(alloc, functions)?)
 }
 
-/// What the rules ask of a place, which stands after another one.
-#[tactic(auto, unfolding(crate::specs::Places::see))]
-fn see(
+/// A mention that comes after another one, its name looked up in the scopes around it.
+#[tactic(auto, unfolding(crate::specs::Mentions::look_up))]
+fn look_up(
     alloc: Global,
     scopes: &[Scope],
-    before: Option<&Seen>,
+    before: Option<&Mention>,
     around: Around,
     what: What,
     name: Name,
-) -> Result<Seen, AllocError>
-    ensures { IfOk result (λ p. place_of p ≡ see
+) -> Result<Mention, AllocError>
+    ensures { IfOk result (λ p. mention_of p ≡ look_up
         (record { what = what; name = name; scopes = scopes_of scopes.now; around = around })) }
 {
     let declared = declared_at(scopes, what, name.text.as_str());
     let clashes = clashes(scopes, what, &name);
     let functions = shared(alloc, functions_of(alloc, scopes)?, before)?;
-    Ok(Seen {
+    Ok(Mention {
         what,
         name,
         around,
@@ -81,25 +81,26 @@ fn see(
     })
 }
 
-/// One more place.
+/// One more mention.
 pub fn put(walk: &mut Walk, around: Around, what: What, name: Name) -> Result<(), AllocError>
-    ensures { OnOk result (Adds walk.old walk.new (site (scopes_in walk.old) around what name)) }
+    ensures { OnOk result (Adds walk.old walk.new
+        (one_mention (scopes_in walk.old) around what name)) }
 {
-    let before = walk.places.last();
-    let seen = see(walk.alloc, &walk.scopes, before, around, what, name)?;
-    walk.places.push(seen)?;
+    let before = walk.mentions.last();
+    let mention = look_up(walk.alloc, &walk.scopes, before, around, what, name)?;
+    walk.mentions.push(mention)?;
     Ok(())
 }
 
-/// One more place, at a name of the tree.
+/// One more mention, at a name of the tree.
 pub fn put_name(walk: &mut Walk, around: Around, what: What, name: &Name) -> Result<(), AllocError>
     ensures { OnOk result (Adds walk.old walk.new
-        (site (scopes_in walk.old) around what name.now)) }
+        (one_mention (scopes_in walk.old) around what name.now)) }
 {
     put(walk, around, what, copy_of(name)?)
 }
 
-/// One more place, at a word.
+/// One more mention, at a word.
 pub fn put_word(
     walk: &mut Walk,
     around: Around,
@@ -108,7 +109,7 @@ pub fn put_word(
     spot: Spot,
 ) -> Result<(), AllocError>
     ensures { OnOk result (Adds walk.old walk.new
-        (site (scopes_in walk.old) around what (word_at word.now spot))) }
+        (one_mention (scopes_in walk.old) around what (word_at word.now spot))) }
 {
     let name = word_at(walk.alloc, word, spot)?;
     put(walk, around, what, name)
@@ -117,7 +118,7 @@ pub fn put_word(
 /// A name that is read.
 pub fn put_read(walk: &mut Walk, around: Around, name: &Name) -> Result<(), AllocError>
     ensures { OnOk result (Adds walk.old walk.new
-        (read_site (scopes_in walk.old) around name.now)) }
+        (read_mention (scopes_in walk.old) around name.now)) }
 {
     let text = name.text.as_str();
     if is_object(text) {
@@ -132,7 +133,7 @@ pub fn put_read(walk: &mut Walk, around: Around, name: &Name) -> Result<(), Allo
 /// A name that is assigned or updated.
 pub fn put_changed(walk: &mut Walk, around: Around, name: &Name) -> Result<(), AllocError>
     ensures { OnOk result (Adds walk.old walk.new
-        (assign_site (scopes_in walk.old) around name.now)) }
+        (assign_mention (scopes_in walk.old) around name.now)) }
 {
     let what = if is_reserved(name.text.as_str()) {
         What::Misuses
@@ -144,7 +145,7 @@ pub fn put_changed(walk: &mut Walk, around: Around, name: &Name) -> Result<(), A
 
 /// The first token of a function, or of the program.
 pub fn put_begin(walk: &mut Walk, owner: u32, spot: Spot) -> Result<(), AllocError>
-    ensures { OnOk result (Adds walk.old walk.new (begin_site (scopes_in walk.old) owner spot)) }
+    ensures { OnOk result (Adds walk.old walk.new (begin_mention (scopes_in walk.old) owner spot)) }
 {
     put_word(walk, in_function(owner), What::Begins, "", spot)
 }
@@ -152,7 +153,7 @@ pub fn put_begin(walk: &mut Walk, owner: u32, spot: Spot) -> Result<(), AllocErr
 /// The parameters of a function.
 pub fn put_parameters(walk: &mut Walk, around: Around, names: &[Name]) -> Result<(), AllocError>
     ensures { OnOk result (Adds walk.old walk.new
-        (parameter_sites (scopes_in walk.old) around names.now)) }
+        (parameter_mentions (scopes_in walk.old) around names.now)) }
 {
     for name in names {
         put_name(walk, around, What::Declares(Role::Parameter), name)?;

@@ -1,6 +1,6 @@
-//! Declarations, places and faults.
+//! Declarations, mentions and faults.
 ghost use Rattle.std.specs.Prelude.{◌≡◌, IfOk};
-ghost use Rattle.js_names.specs.Sites.{word_at};
+ghost use Rattle.js_names.specs.Unresolved.{word_at};
 
 use js_data::Text;
 use js_tree::{Name, Spot};
@@ -22,21 +22,21 @@ pub enum Role {
 #[derive(Clone, Copy)]
 pub struct Declared {
     pub role: Role,
-    /// The place of the declared name.
-    pub place: u32,
-    /// The place from which on it can be copied: after its declarator, its own place where it has none, or `TOP`
+    /// The offset of the declared name in the text.
+    pub offset: u32,
+    /// The offset from which on it can be copied: after its declarator, its own offset where it has none, or `TOP`
     /// where it can never be copied.
     pub end: u32,
-    /// The place of the function that it belongs to.
+    /// The offset of the function that it belongs to.
     pub owner: u32,
     /// It stands directly in the list of statements of its function or of the program, and, for a `var`,
     /// nowhere else.
     pub direct: bool,
-    /// For a `var`, the place after the last of its declarators with a value, or `TOP` where one is nested; else 0.
+    /// For a `var`, the offset after the last of its declarators with a value, or `TOP` where one is nested; else 0.
     pub given: u32,
 }
 
-/// What stands at a place.
+/// What a mention is of.
 #[derive(Clone, Copy)]
 pub enum What {
     /// A name that is declared.
@@ -55,30 +55,30 @@ pub enum What {
     Begins,
 }
 
-/// Where a place is: the place of the function around it, and whether a loop of that function is around it.
+/// Where a mention is: the offset of the function around it, and whether a loop of that function is around it.
 #[derive(Clone, Copy)]
 pub struct Around {
     pub owner: u32,
     pub looped: bool,
 }
 
-/// A place, with what the rules ask of it.
-pub struct Seen {
+/// A mention: where a name stands in the text, or a word of the language that has rules, with what the rules ask of it.
+pub struct Mention {
     pub what: What,
     pub name: Name,
     pub around: Around,
     /// What the name stands for.
     pub declared: Option<Declared>,
-    /// The functions around, the innermost first, and the top level last. Places in a row share them.
+    /// The functions around, the innermost first, and the top level last. Mentions in a row share them.
     pub functions: Arc<Vec<u32>>,
     /// The name has an earlier declaration that it clashes with, or can't be declared.
     pub clashes: bool,
 }
 
 // It is let go by one call, written out.
-impl Drop for Seen {
+impl Drop for Mention {
     fn drop(self) {
-        let Seen {
+        let Mention {
             what: _,
             name: _,
             around: _,
@@ -89,7 +89,7 @@ impl Drop for Seen {
     }
 }
 
-/// A rule of names that is broken, with the name and the place; or out of memory.
+/// A rule of names that is broken, with the name where it stands; or out of memory.
 #[derive(Debug, Drop, Error)]
 pub enum NameFault {
     /// Nothing declares the name, or it is a use of `bp` or `Math` that is not a form.
@@ -120,7 +120,7 @@ pub enum NameFault {
 
 impl From<AllocError> for NameFault {
     ghost use Rattle.std.specs.Prelude.{◌≡◌};
-    ghost use Rattle.js_names.specs.declared.place.NameFault.TheVariants.{Memory};
+    ghost use Rattle.js_names.specs.declared.mention.NameFault.TheVariants.{Memory};
 
     ghost from_gives = { λ _ f. f ≡ Memory };
 
@@ -129,7 +129,7 @@ impl From<AllocError> for NameFault {
     }
 }
 
-/// The same name at the same place.
+/// The same name at the same offset.
 pub fn copy_of(name: &Name) -> Result<Name, AllocError>
     ensures { IfOk result (λ n. n ≡ name.now) }
 {
@@ -139,7 +139,7 @@ pub fn copy_of(name: &Name) -> Result<Name, AllocError>
     })
 }
 
-/// A word at a place.
+/// A word where it stands.
 pub fn word_at(alloc: Global, text: &str, spot: Spot) -> Result<Name, AllocError>
     ensures { IfOk result (λ n. n ≡ word_at text.now spot) }
 {

@@ -1,8 +1,8 @@
 use Rattle.std.proofs.Common.{◌≡◌, ◌∙◌, ◌++◌, sym, ap, arith, take, append-nil, ◌-◌}
-use Rattle.js_names.specs.Places.{functions_of, owner_in}
+use Rattle.js_names.specs.Mentions.{functions_of, owner_in}
 use Rattle.js_names.specs.Views.{scope_of, scopes_of}
 use Rattle.js_names.proofs.Stacks.{functions_down, functions_empty, functions_step}
-use Rattle.js_names.proofs.seeing.functions_of.Goals as goal
+use Rattle.js_names.proofs.steps.functions_of.Goals as goal
 
 pub loop-i-preserved : goal.loop-i-preserved
 loop-i-preserved c =

@@ -1,7 +1,7 @@
 use Rattle.std.proofs.Common.{◌≡◌, ◌≤◌, ◌++◌, length, take}
-use Rattle.js_names.specs.Places.{functions_of}
+use Rattle.js_names.specs.Mentions.{functions_of}
 use Rattle.js_names.specs.Views.{scopes_of}
-use Rattle.js_names.proofs.seeing.functions_of.Given as goal
+use Rattle.js_names.proofs.steps.functions_of.Given as goal
 
 abbrev pub invariant-loop-i : goal.invariant-loop-i
 invariant-loop-i l = record {
