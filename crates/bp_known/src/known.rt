@@ -6,7 +6,7 @@ ghost use Rattle.bp_sets.specs.Answers.{TellsAs};
 ghost use Rattle.bp_known.specs.Known.{Sets, AreKnown, known_again, restated, told_again, with_answer, with_membership, without};
 
 use bp_log::Memory;
-use bp_sets::{SetFault, contains};
+use bp_sets::{Asked, SetFault, contains_as};
 use js_data::Event;
 use js_frames::Ground;
 use js_value::EventSet;
@@ -91,6 +91,7 @@ fn again(
     number: u32,
     set: Option<&EventSet>,
     told: &Told,
+    asked: &mut Asked,
 ) -> Result<Known, Memory>
     ensures { let base = plain_ground ground.now in
         IfOk result (λ k. k ≡ known_again base budget number (option_map (λ s. s.now) set.entry)
@@ -103,7 +104,8 @@ fn again(
             if matches!(known, Known::Unknown) {
                 return Ok(Known::Unknown);
             }
-            let answer = contains(alloc, ground, set, &told.event, budget);
+            asked.forget();
+            let answer = contains_as(alloc, ground, set, &told.event, budget, asked);
             with_set(known, number, answer)
         }
     }
@@ -130,8 +132,9 @@ pub fn renew(
         (sets : Sets) → AreKnown base budget sets told.items → IfOk result (λ ts. AreKnown base
         budget (restated number (option_map (λ s. s.now) set.entry) sets) ts.items) }
 {
+    let mut asked = Asked::new();
     for at in 0..told.len() {
-        let known = again(alloc, ground, budget, number, set, &told[at])?;
+        let known = again(alloc, ground, budget, number, set, &told[at], &mut asked)?;
         told[at].known = known;
     }
     Ok(told)

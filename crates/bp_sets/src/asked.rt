@@ -8,6 +8,7 @@ ghost use Rattle.bp_meaning.specs.Membership.{asks_predicate};
 ghost use Rattle.bp_sets.specs.Asked.{IsAbout, IsAnswer, IsValue};
 
 use js_data::{Event, Memory};
+use js_frames::Machine;
 use js_value::{Value, copy, event_value};
 use std::alloc::Global;
 
@@ -28,6 +29,8 @@ pub struct Asked {
     pub(crate) value: Option<Value>,
     /// What the last predicate that captured nothing answered.
     pub(crate) answer: Option<Answer>,
+    /// The machine that ran the last predicate: its room serves the next, whatever the event.
+    pub(crate) machine: Option<Machine>,
 }
 
 impl Asked {
@@ -38,7 +41,16 @@ impl Asked {
         Asked {
             value: None,
             answer: None,
+            machine: None,
         }
+    }
+
+    /// Nothing was asked about the event that comes. What is kept of another is let go.
+    pub fn forget(&mut self)
+        ensures { (base : Base) (budget : ℕ) (e : PlainEvent) → IsAbout base budget e self.new }
+    {
+        self.value = None;
+        self.answer = None;
     }
 }
 

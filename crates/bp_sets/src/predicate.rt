@@ -39,7 +39,8 @@ fn truth_in(answer: &Value, line: u32) -> Result<bool, SetFault>
     }
 }
 
-/// What a predicate answers of an event: it is called with the event, and with the whole budget.
+/// What a predicate answers of an event: it is called with the event, and with the whole budget, by a
+/// machine whose room is used again.
 fn call(
     alloc: Global,
     ground: &Ground,
@@ -47,6 +48,7 @@ fn call(
     captured: &Items,
     event: &Value,
     budget: u64,
+    room: &mut Option<Machine>,
 ) -> Result<bool, SetFault>
     ensures { (e : PlainEvent) → plain_value event.now ≡ of_value.event e → TellsAs
         (asks_predicate (plain_ground ground.now) budget code captured.now e) result }
@@ -57,7 +59,8 @@ fn call(
         captured: captured.copy()?,
     };
     let args = [copy(event)?];
-    let mut machine = Machine::start(alloc, ground, &callee, &args, Mode::Predicate, budget)?;
+    let machine = room.get_or_insert_with(|| Machine::idle(alloc));
+    machine.restart(ground, &callee, &args, Mode::Predicate, budget)?;
     match machine.run(ground, budget)? {
         Pause::Ended => truth_in(machine.answer(), line),
         Pause::Broken(fault, at) => Err(SetFault::Broken(fault, at)),
@@ -82,7 +85,15 @@ fn ask_anew(
     ensures about { IsAbout (plain_ground ground.now) budget event.now asked.new }
 {
     let event = value_of(alloc, &mut asked.value, event)?;
-    call(alloc, ground, code, captured, &event, budget)
+    call(
+        alloc,
+        ground,
+        code,
+        captured,
+        &event,
+        budget,
+        &mut asked.machine,
+    )
 }
 
 /// Whether nothing is captured.

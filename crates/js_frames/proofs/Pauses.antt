@@ -1,7 +1,7 @@
 -- What the pauses of a machine say.
 use Rattle.std.proofs.lemmas.Bool.{false≢true}
-use Rattle.std.specs.Prelude.{nat_lt, IsSome}
-use Rattle.std.proofs.Common.{inl, inr, Bool, true, false, cond, ◌≡◌, ℕ, zero, suc, ◌+◌, ◌≤◌, List, [], ◌∷◌, ◌++◌, length, Option, Some, None, refl, sym, ap, ◌∙◌, subst, arith, append_assoc, append-nil}
+use Rattle.std.specs.Prelude.{nat_lt, IsSome, OnErr}
+use Rattle.std.proofs.Common.{inl, inr, Bool, true, false, cond, ◌≡◌, ℕ, zero, suc, ◌+◌, ◌≤◌, List, [], ◌∷◌, ◌++◌, length, Option, Some, None, Result, Ok, Err, refl, sym, ap, ◌∙◌, subst, arith, append_assoc, append-nil}
 use Rattle.js_data.specs.Event.{PlainEvent}
 use Rattle.js_data.specs.declared.fault.Fault.{Fault}
 use Rattle.js_data.specs.declared.fault.Fault.TheVariants as fault
@@ -348,3 +348,8 @@ answers_only (Normal x) h k = k x refl
 answers_only Broke h k = false≢true h
 answers_only Continued h k = false≢true h
 answers_only (Returned x) h k = false≢true h
+
+-- what holds anyway does so after an error
+pub on_err : {X E P : Type 0} (r : Result X E) → P → OnErr r P
+on_err (Ok x) p = tt
+on_err (Err e) p = p

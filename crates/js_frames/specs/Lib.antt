@@ -2,4 +2,5 @@ pub mod Places
 pub mod Frames
 pub mod Fits
 pub mod Leads
+pub mod Reading
 pub mod Runs

@@ -100,6 +100,7 @@ impl Engine {
             NodeForm::Binary(operator, left, right) => {
                 self.operator(base, number, *operator, *left, *right)
             }
+            NodeForm::Member(part, word) => self.begin_member(base, number, node, *part, word),
             NodeForm::Index(part, _) => self.begin_first(base, number, *part),
             NodeForm::Expression(part) => self.wait(*part, Frame::Waiting(Part::Dropped)),
             NodeForm::Assign(operator, slot, part) => {

@@ -35,6 +35,13 @@ impl Effects {
         }
     }
 
+    /// No effects any more.
+    pub fn clear(&mut self)
+        ensures { plain_effects self.new ≡ [] }
+    {
+        self.items.clear();
+    }
+
     /// One more effect.
     pub fn push(&mut self, effect: Effect) -> Result<(), Memory>
         ensures { OnOk result

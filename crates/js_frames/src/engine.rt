@@ -1,5 +1,5 @@
 //! What a machine keeps between two steps.
-ghost use Rattle.std.specs.Prelude.{◌≡◌, [], IfOk, unwrap_or};
+ghost use Rattle.std.specs.Prelude.{◌≡◌, [], None, IfOk, unwrap_or};
 ghost use Rattle.js_frames.specs.Places.{place_of, fresh};
 ghost use Rattle.js_frames.specs.Leads.{pushed};
 
@@ -67,6 +67,21 @@ impl Engine {
             effects: Effects::new(alloc),
             spare: Vec::new(alloc),
         }
+    }
+
+    /// Before anything has begun, outside of the top level: of what there was, the room alone stays.
+    pub fn begin_anew(&mut self, mode: Mode, budget: u64)
+        ensures { place_of self.new ≡ fresh mode budget None }
+    {
+        self.mode = mode;
+        self.stack.clear();
+        self.slots.clear();
+        self.constants = None;
+        self.calls = 0;
+        self.fuel = budget;
+        self.floor = budget;
+        self.budget = budget;
+        self.effects.clear();
     }
 
     /// No values, in a room that is spare where there is one.

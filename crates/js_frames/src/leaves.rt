@@ -17,7 +17,7 @@ use js_value::{Value, copy};
 impl Engine {
     /// The value of a number or of a variable that is declared; none of any other node.
     #[inline(always)]
-    fn leaf_value(&self, base: &Ground, number: u32) -> Result<Option<Value>, Memory>
+    pub fn leaf_value(&self, base: &Ground, number: u32) -> Result<Option<Value>, Memory>
         requires { IsNode base.now.program number }
         ensures { IfOk result (λ found. option_map plain_value found ≡ leaf_of
             (plain_ground base.now) (place_of self.now) (slice_get base.now.program.nodes number)) }

@@ -18,6 +18,7 @@ mod ground;
 mod leaves;
 mod loops;
 mod machine;
+mod members;
 mod nodes;
 mod operators;
 mod parts;

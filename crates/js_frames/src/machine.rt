@@ -1,5 +1,5 @@
 //! The machine.
-ghost use Rattle.std.specs.Prelude.{◌≡◌, ℕ, ◌++◌, ◌∷◌, [], List, map, IfOk, OnErr, IsErr, IsSome, Some};
+ghost use Rattle.std.specs.Prelude.{◌≡◌, ℕ, ◌++◌, ◌∷◌, [], List, map, IfOk, OnOk, OnErr, IsErr, IsSome, Some};
 ghost use Rattle.js_data.specs.Event.{PlainEvent};
 ghost use Rattle.js_value.specs.Views.{plain_value};
 ghost use Rattle.js_program.specs.PlainProgram.{PlainProgram};
@@ -88,16 +88,16 @@ impl Drop for Machine {
     }
 }
 
-/// Copies of values.
-fn copies(alloc: Global, values: &[Value]) -> Result<Values, Memory>
-    ensures { IfOk result (λ vs. vs ≡ map plain_value values.now) }
+/// Copies of values, where there were none.
+fn push_copies(made: &mut Values, values: &[Value]) -> Result<(), Memory>
+    requires { made.old ≡ [] }
+    ensures { OnOk result (made.new ≡ map plain_value values.now) }
 {
-    let mut made = Values::new(alloc);
     for value in values {
         let copied = copy(value)?;
         made.push(copied)?;
     }
-    Ok(made)
+    Ok(())
 }
 
 impl Machine {
@@ -131,14 +131,45 @@ impl Machine {
         ensures stands { IfOk result (λ m. Stands (plain_ground base.now) budget
             (function mode (plain_value callee.now) (map plain_value args.now)) [] 0 [] m) }
     {
-        let values = copies(alloc, args)?;
-        let mut engine = Engine::new(alloc, mode, budget, None);
+        let mut machine = Machine::idle(alloc);
+        machine.restart(base, callee, args, mode, budget)?;
+        Ok(machine)
+    }
+
+    /// A machine that stands for nothing.
+    pub fn idle(alloc: Global) -> Machine
+        ensures { IsLost result }
+    {
+        Machine {
+            engine: Engine::new(alloc, Mode::Top, 0, None),
+            pending: None,
+        }
+    }
+
+    /// The machine stands at the start of a call of a function from now on; of what it stood for, the
+    /// room alone serves the call. After memory ran out it stands for nothing.
+    pub fn restart(
+        &mut self,
+        base: &Ground,
+        callee: &Value,
+        args: &[Value],
+        mode: Mode,
+        budget: u64,
+    ) -> Result<(), Memory>
+        ensures program { OnOk result (IsOfProgram (plain_ground base.now).program self.new) }
+        ensures effects { OnOk result (untaken self.new ≡ []) }
+        ensures stands { OnOk result (Stands (plain_ground base.now) budget
+            (function mode (plain_value callee.now) (map plain_value args.now)) [] 0 [] self.new) }
+        ensures lost { OnErr result (IsLost self.new) }
+    {
+        self.pending = None;
+        self.engine.begin_anew(mode, budget);
+        let mut values = self.engine.no_values();
+        push_copies(&mut values, args)?;
         let function = copy(callee)?;
-        let step = engine.call(base, 0, function, values)?;
-        Ok(Machine {
-            engine,
-            pending: Some(Pending::Next(step)),
-        })
+        let step = self.engine.call(base, 0, function, values)?;
+        self.pending = Some(Pending::Next(step));
+        Ok(())
     }
 
     /// Begins at most this many nodes, and says why it stops. After memory ran out it answers nothing

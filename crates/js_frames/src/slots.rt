@@ -61,6 +61,13 @@ impl Slots {
         Ok(Slots { items })
     }
 
+    /// No variables any more; the room stays.
+    pub fn clear(&mut self)
+        ensures { self.new ≡ [] }
+    {
+        self.items.clear();
+    }
+
     /// How many there are.
     pub fn len(&self) -> usize
         ensures { result ≡ length self.now }

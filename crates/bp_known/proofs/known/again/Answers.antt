@@ -10,4 +10,7 @@ pub returns-else-matches : goal.returns-else-matches
 returns-else-matches c =
     let base = plain_ground c.args.ground.now in
     subst (λ (o : Option (Bor EventSet)). IfOk c.with_set.result (λ k. k ≡ known_again base c.args.budget c.args.number (option_map (λ x. x.now) o) c.args.told.now.event c.args.told.now.known)) (sym c.in-Some.is)
-    (c.with_set.ensures (member base c.args.budget c.in-Some.set.now c.args.told.now.event) c.contains-answer.ensures)
+    (c.with_set.ensures (member base c.args.budget c.in-Some.set.now c.args.told.now.event) c.contains_as-answer.ensures.tells)
+
+pub contains_as-answer-requires : goal.contains_as-answer-requires
+contains_as-answer-requires c = c.forget.ensures (plain_ground c.args.ground.now) c.args.budget c.args.told.now.event

@@ -45,3 +45,6 @@ returns-in-Index c = begin_means (plain_ground c.args.base.now) (place_of c.args
 
 pub assign-requires-clause-part : goal.assign-requires-clause-part
 assign-requires-clause-part c = part_is (plain_ground c.args.base.now) (place_of c.args.self.now) c.args.number c.node_of-node.result.now c.node_of-node.ensures.node _ c.in-Assign.is c.node_of-node.ensures.parts 0 _ refl
+
+pub begin_member-requires-clause-part : goal.begin_member-requires-clause-part
+begin_member-requires-clause-part c = part_is (plain_ground c.args.base.now) (place_of c.args.self.now) c.args.number c.node_of-node.result.now c.node_of-node.ensures.node _ c.in-Member.is c.node_of-node.ensures.parts 0 _ refl

@@ -1,11 +1,10 @@
-use Rattle.std.proofs.Common.{◌≡◌, None, Some, Result, Ok, Err, sym, ◌∙◌, subst}
-use Rattle.std.specs.Prelude.{OnErr}
+use Rattle.std.proofs.Common.{◌≡◌, None, Some, sym, ◌∙◌, subst}
 use Rattle.js_program.specs.PlainProgram.{PlainProgram}
 use Rattle.js_frames.specs.declared.machine.Machine.{Machine}
 use Rattle.js_frames.specs.declared.machine.Pending.TheVariants.{Next}
 use Rattle.js_frames.specs.Places.{plain_ground}
 use Rattle.js_frames.specs.Runs.{IsOfProgram, IsLost, Runs, PendingFits}
-use Rattle.js_frames.proofs.Pauses.{runs_on, asks_at}
+use Rattle.js_frames.proofs.Pauses.{runs_on, asks_at, on_err}
 use Rattle.js_frames.proofs.machine.Machine.run.Goals as goal
 
 pub advance-requires-clause-step : goal.advance-requires-clause-step
@@ -30,10 +29,6 @@ returns-clause-stands c = λ budget o replies begun taken h.
 
 pub returns-clause-at_sync : goal.returns-clause-at_sync
 returns-clause-at_sync c = asks_at c.advance.new.self c.in_ok-last.last c.in_ok-pause.pause c.in_ok-pause.ensures
-
-on_err : {X E P : Type 0} (r : Result X E) → P → OnErr r P
-on_err (Ok x) p = tt
-on_err (Err e) p = p
 
 nothing_next : (program : PlainProgram) (m : Machine) → m.pending ≡ None → IsOfProgram program m
 unfolding IsOfProgram
