@@ -58,7 +58,7 @@ chosen_on f e place d =
 -- the run after choosing, on the same floor
 pub record IsChoosing (r s : Run) : Type 0 where
   pub floor : s.floor ≡ r.floor
-  pub records : s.records.records ≡ r.records.records
+  pub records : s.records.items ≡ r.records.items
   pub drawn : r.draw.drawn ≤ s.draw.drawn
 
 chosen_same : (r s : Run) (e : PlainEvent) (place : Option ℕ) → s.floor ≡ r.floor →

@@ -1,6 +1,8 @@
 -- What the entering of an item leaves.
 use Rattle.std.proofs.Common.{◌≡◌, ℕ, Bool, true, false, List, [], refl, sym, ap, ◌∙◌, subst, Result, Ok, Err, OnOk, OnErr, nat_eq}
+use Rattle.std.specs.Prelude.{Vec}
 use Rattle.std.specs.List.{list_any}
+use Rattle.std.specs.declared.alloc.Global.{Global}
 use Rattle.js_meaning.specs.Bodies.{Origin}
 use Rattle.bp_log.specs.Options.{PlainOptions}
 use Rattle.bp_log.specs.Records.{is_complete}
@@ -19,7 +21,6 @@ use Rattle.bp_arbiter.specs.declared.run.Run.{Run}
 use Rattle.bp_arbiter.specs.Arbiters.{PlainArbiter, StandsFor, Keeps, is_over, options_in, stand_in}
 use Rattle.bp_arbiter.specs.Sound.{IsSound, IsStanding}
 use Rattle.bp_arbiter.specs.Absorb.{is_failed, fits, with_item, absorbed}
-use Rattle.bp_arbiter.specs.Recording.{PlainRecordList}
 use Rattle.bp_arbiter.specs.Runs.{seen}
 use Rattle.bp_arbiter.proofs.Standing.{sound_of}
 use Rattle.bp_arbiter.proofs.AbsorbLemmas.{stands_absorbed}
@@ -77,7 +78,7 @@ module _ (a : PlainArbiter) (r : Run) (i : IsAt Rest a r) (j : ℕ) (x : Item) (
 -- ---- where an item enters or comes back
 
 -- with a place for one record more
-pub at_reserved : (f : Phase) (a : PlainArbiter) (r : Run) (x : PlainRecordList) (g : Phase) (b : Bool) → x.records ≡ r.records.records → seen r g b ≡ a → a.phase ≡ f → b ≡ false → IsSound r.draw.seed (seen r g b) →
+pub at_reserved : (f : Phase) (a : PlainArbiter) (r : Run) (x : Vec Record Global) (g : Phase) (b : Bool) → x.items ≡ r.records.items → seen r g b ≡ a → a.phase ≡ f → b ≡ false → IsSound r.draw.seed (seen r g b) →
     (r.floor.broken ≡ false → IsPhased r.floor) → IsAt f a (record r { records = x })
 at_reserved f a r x g b h v k w s o =
     let e : seen (record r { records = x }) g b ≡ seen r g b = ap (λ (rs : List Record). record (seen r g b) { records = rs }) h in

@@ -110,11 +110,11 @@ module _ (r : Run) (taken : List Line) (p : Pair Origin) (s : StandsFor (seen r 
       ap (λ (x : Configuration Origin). coming a x) (same_told a c s.told h s.story ∙ told_is)
       ∙ next_stands (code_on r.floor) r.floor.options the_top taken p r.floor.pair (configuration_of r) stands_bare
 
-  module _ (r' : Run) (b : IsBeside r r') (going : is_complete r.records.records ≡ false) where
-    told_on : (n : Next) (f : Phase) → next_in r ≡ n → r'.records.records ≡ r.records.records ++ option_to_list (record_of n) →
+  module _ (r' : Run) (b : IsBeside r r') (going : is_complete r.records.items ≡ false) where
+    told_on : (n : Next) (f : Phase) → next_in r ≡ n → r'.records.items ≡ r.records.items ++ option_to_list (record_of n) →
         Recounts (seen r' f false) (after_next (code_on r.floor) s.told n)
     told_on n f e h =
-        same_story (record a { records = r.records.records ++ option_to_list (record_of n) }) (seen r' f false) (after_next (code_on r.floor) s.told n) b.program b.options h
+        same_story (record a { records = r.records.items ++ option_to_list (record_of n) }) (seen r' f false) (after_next (code_on r.floor) s.told n) b.program b.options h
         (on a s.told n s.story going (next_is s.told s.story ∙ e))
 
     ends : (v : Verdict) (f : Phase) → next_in r ≡ Ends v → IsEnded r v r' → f ≡ Over → StandsFor (seen r' f false) [] taken (record p { stand = over p.stand v })
@@ -156,7 +156,7 @@ module _ (r : Run) (taken : List Line) (p : Pair Origin) (s : StandsFor (seen r 
         record {
           whole = refl;
           told = s.told;
-          story = told_on Waits f e (h.records ∙ sym (append-nil r.records.records));
+          story = told_on Waits f e (h.records ∙ sym (append-nil r.records.items));
           settles = s.settles ∙ ap (λ (l : Code Origin PlainSet). settle l p) (sym (same_code r.floor.base.program r'.floor.base.program r.floor.options r'.floor.options b.program b.options));
           reading = s.reading ∙ sym b.reading;
           bad = s.bad ∙ sym b.bad;

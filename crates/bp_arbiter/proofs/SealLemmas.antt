@@ -71,7 +71,7 @@ over_verdict (Some v) ns = refl
 -- a turn with a verdict, which got its line and its record
 pub turned_ended : (r new : Run) (jobs : List Job) (g : PlainFloor) (rs : List Record) (v : Verdict) → IsSealed r.floor jobs g →
     ((taken : List Line) (p : Pair Origin) → StandsWith r.floor jobs taken p → FloorStands g taken (turn (code_on r.floor) p)) → g.pair.stand.verdict ≡ Some v → g.broken ≡ false → new.floor ≡ ended_floor g v →
-    rs ≡ r.records.records → new.records.records ≡ rs ++ End v ∷ [] → new.draw.drawn ≡ r.draw.drawn → IsTurned r jobs new
+    rs ≡ r.records.items → new.records.items ≡ rs ++ End v ∷ [] → new.draw.drawn ≡ r.draw.drawn → IsTurned r jobs new
 turned_ended r new jobs g rs v s h e w f same k d =
     let q = turned_in r jobs in
     let ended : q.stand.verdict ≡ Some v = ap (λ (x : Pair Origin). x.stand.verdict) (sym s.pair_is) ∙ e in
@@ -80,7 +80,7 @@ turned_ended r new jobs g rs v s h e w f same k d =
       pair_is = ap (λ (x : PlainFloor). x.pair) f ∙ ap (λ (x : Pair Origin). ended_with (Some v) x) s.pair_is ∙ ap (λ (o : Option Verdict). ended_with o q) (sym ended);
       phase_is = ap (λ (x : PlainFloor). x.phase) f ∙ sym (ap (λ (x : PlainFloor). phase_of x.pair) f);
       whole = ap (λ (x : PlainFloor). x.broken) f ∙ w;
-      records = k ∙ ap (λ (xs : List Record). xs ++ End v ∷ []) same ∙ ap (λ (o : Option Verdict). r.records.records ++ ending o) (sym ended);
+      records = k ∙ ap (λ (xs : List Record). xs ++ End v ∷ []) same ∙ ap (λ (o : Option Verdict). r.records.items ++ ending o) (sym ended);
       drawn = d;
     }
 
@@ -152,7 +152,7 @@ module _ (r : Run) (jobs : List Job) (taken : List Line) (p : Pair Origin) (s : 
         ∙ ap (λ (x : Stand Origin). x.verdict) (told_verdict v (same_verdict ∙ e)) ∙ same_verdict ∙ e)
 
     -- the lines of the turn are among those of the story
-    pub tells_turned : (b : PlainArbiter) → b.floor.base.program ≡ r.floor.base.program → options_in b ≡ r.floor.options → b.records ≡ r.records.records →
+    pub tells_turned : (b : PlainArbiter) → b.floor.base.program ≡ r.floor.base.program → options_in b ≡ r.floor.options → b.records ≡ r.records.items →
         (stand_in b).lines ≡ (turned_in r jobs).stand.lines → Tells b taken
     tells_turned b h o rs ls =
         let g = grown_settle l (turn l p) in
@@ -166,7 +166,7 @@ module _ (r : Run) (jobs : List Job) (taken : List Line) (p : Pair Origin) (s : 
               ∙ ap (λ (xs : List Line). taken ++ (xs ++ g.more)) (sym ls);
         }
 
-    module _ (r' : Run) (b : IsBeside r r') (t : IsTurned r jobs r') (going : is_complete r.records.records ≡ false) where
+    module _ (r' : Run) (b : IsBeside r r') (t : IsTurned r jobs r') (going : is_complete r.records.items ≡ false) where
       floor_stands : forgotten the_top (after_turn l p) ≡ before taken r'.floor.pair
       floor_stands =
           ended_stands taken (turn l p).stand.verdict (turned_in r jobs).stand.verdict (turn l p) (turned_in r jobs) same_verdict turn_stands
@@ -181,7 +181,7 @@ module _ (r : Run) (jobs : List Job) (taken : List Line) (p : Pair Origin) (s : 
             whole = refl;
             told = s.told;
             story = same_story a (seen r' f false) s.told b.program b.options
-                (t.records ∙ ap (λ (v : Option Verdict). r.records.records ++ ending v) (sym same_verdict ∙ e) ∙ append-nil r.records.records) s.story;
+                (t.records ∙ ap (λ (v : Option Verdict). r.records.items ++ ending v) (sym same_verdict ∙ e) ∙ append-nil r.records.items) s.story;
             settles = told_turned ∙ ap (λ (x : Code Origin PlainSet). settle x (turn l p)) (sym code_same);
             reading = s.reading ∙ sym b.reading;
             bad = s.bad ∙ sym b.bad;
@@ -194,8 +194,8 @@ module _ (r : Run) (jobs : List Job) (taken : List Line) (p : Pair Origin) (s : 
           record {
             whole = refl;
             told = over_with s.told v;
-            story = same_story (record a { records = r.records.records ++ End v ∷ [] }) (seen r' f false) (over_with s.told v) b.program b.options
-                (t.records ∙ ap (λ (v : Option Verdict). r.records.records ++ ending v) (sym same_verdict ∙ e))
+            story = same_story (record a { records = r.records.items ++ End v ∷ [] }) (seen r' f false) (over_with s.told v) b.program b.options
+                (t.records ∙ ap (λ (v : Option Verdict). r.records.items ++ ending v) (sym same_verdict ∙ e))
                 (on a s.told (Ends v) s.story going (verdict_next v s.told s.story (sym same_verdict ∙ e)));
             settles = ap (λ (x : Stand Origin). over x v) (told_verdict v e)
                 ∙ sym (settle_over (code_on r'.floor) (record (turn l p) { stand = over (turn l p).stand v }) refl);

@@ -52,7 +52,7 @@ module _ (a : PlainArbiter) (r : Run) (i : IsAt Lent a r) (jobs : List Job) wher
   lent_phase : r.floor.phase ≡ Lent
   lent_phase = (((i.sound).standing refl).keeps).floor_phase
 
-  going : is_complete r.records.records ≡ false
+  going : is_complete r.records.items ≡ false
   going = (i.sound).over
 
   carried : (lent : List Job) (taken : List Line) (p : Pair Origin) → StandsFor a lent taken p → AreCarriedOut a.floor.base (options_in a).budget lent jobs → StandsFor (seen r Lent false) jobs taken p
@@ -99,9 +99,9 @@ module _ (a : PlainArbiter) (r : Run) (i : IsAt Lent a r) (jobs : List Job) wher
       pub seal_grows : r'.floor.phase ≡ Ready → length (stand_in a).threads < length r'.floor.pair.stand.threads
       seal_grows e = subst (λ (x : PlainArbiter). length (stand_in x).threads < length r'.floor.pair.stand.threads) (sym i.is) (has_grown r r' jobs t e)
 
-      over_same : is_complete r'.records.records ≡ is_over r'.floor.phase
+      over_same : is_complete r'.records.items ≡ is_over r'.floor.phase
       over_same =
-          ap is_complete t.records ∙ ending_complete r.records.records (turned_in r jobs).stand.verdict going
+          ap is_complete t.records ∙ ending_complete r.records.items (turned_in r jobs).stand.verdict going
           ∙ sym (ap is_over t.phase_is ∙ over_verdict r'.floor.pair.stand.verdict r'.floor.pair.entries ∙ ap is_some (verdict_kept r r' jobs t))
 
       keeps_same : Keeps (seen r' r'.floor.phase false)

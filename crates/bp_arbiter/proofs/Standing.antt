@@ -1,14 +1,13 @@
 -- What an arbiter keeps from call to call.
-use Rattle.std.proofs.Common.{◌≡◌, ℕ, zero, suc, true, false, List, [], ◌∷◌, length, refl, sym, ap, ◌∙◌, subst, Option, Some, None, is_some, option_map, IsSome, option_and_then, slice_get, ◌-◌, arith}
+use Rattle.std.proofs.Common.{◌≡◌, ℕ, true, false, List, [], refl, sym, ap, ◌∙◌, subst, Option, Some, None, is_some, option_map, IsSome, arith}
 use Rattle.js_program.specs.PlainProgram.{PlainProgram}
 use Rattle.js_meaning.specs.Bodies.{Origin}
 use Rattle.bp_log.specs.Options.{PlainOptions}
-use Rattle.bp_log.specs.Records.{is_complete, verdict_in, verdict_of}
+use Rattle.bp_log.specs.Records.{is_complete, verdict_of}
 use Rattle.bp_log.specs.declared.record.Record.{Record}
-use Rattle.bp_log.specs.declared.record.Record.TheVariants.{In, Bad, Eof, Sel, End}
 use Rattle.bp_log.specs.declared.trace.Line.{Line}
 use Rattle.bp_log.specs.declared.verdict.Verdict.{Verdict}
-use Rattle.bp_log.proofs.Complete.{verdict_complete, later_verdict}
+use Rattle.bp_log.proofs.Complete.{verdict_complete}
 use Rattle.bp_run.specs.Configuration.{below}
 use Rattle.bp_run.specs.Settling.{Pair, opening}
 use Rattle.bp_thread.specs.declared.job.Job.{Job}
@@ -19,7 +18,6 @@ use Rattle.bp_arbiter.specs.Arbiters.{PlainArbiter, StandsFor, Tells, Keeps, is_
 use Rattle.bp_arbiter.specs.Sound.{IsSound}
 use Rattle.bp_arbiter.proofs.Told.{stands_tells, stands_opened}
 
--- ---- records
 -- ---- the phase
 
 pub over_is : (f : Phase) → is_over f ≡ true → f ≡ phase.Over
@@ -64,28 +62,6 @@ pub over_exactly : {A : Type 0} (g : A → Verdict) (rs : List Record) (f : Phas
 over_exactly g rs f o h k =
     let same : is_some o ≡ is_over f = sym (some_map g o) ∙ ap is_some h ∙ verdict_complete rs ∙ k in
     ((λ s. over_is f (sym same ∙ s)), (λ e. same ∙ over_true f e))
-
-one_verdict : (r : Record) → verdict_of (r ∷ []) ≡ verdict_in r
-one_verdict (In j e) = refl
-one_verdict (Bad j n) = refl
-one_verdict (Eof j) = refl
-one_verdict (Sel e) = refl
-one_verdict (End v) = refl
-
-verdict_at : (rs : List Record) (n : ℕ) → length rs ≡ suc n → verdict_of rs ≡ option_and_then verdict_in (slice_get rs n)
-verdict_at [] n h = absurd (omega (arith, h))
-verdict_at (r ∷ []) zero h = one_verdict r
-verdict_at (r ∷ []) (suc n) h = absurd (omega (arith, h))
-verdict_at (r ∷ s ∷ rs) zero h = absurd (omega (arith, h))
-verdict_at (r ∷ s ∷ rs) (suc n) h = later_verdict r s rs ∙ verdict_at (s ∷ rs) n (omega (arith, h))
-
--- the last record decides
-pub verdict_last : (rs : List Record) (o : Option Record) → o ≡ slice_get rs (length rs - 1) → verdict_of rs ≡ option_and_then verdict_in o
-verdict_last [] o h = ap (option_and_then verdict_in) (sym h)
-verdict_last (r ∷ rs) o h =
-    verdict_at (r ∷ rs) (length rs) (omega arith)
-    ∙ ap (λ (n : ℕ). option_and_then verdict_in (slice_get (r ∷ rs) n)) (let e : length rs ≡ length (r ∷ rs) - 1 = omega arith in e)
-    ∙ ap (option_and_then verdict_in) (sym h)
 
 -- ---- before anything has run
 

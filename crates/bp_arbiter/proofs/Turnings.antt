@@ -57,7 +57,7 @@ module _ (a : PlainArbiter) (r r' : Run) (i : IsAt Rest a r) (b : IsBeside r r')
   rests : r.floor.phase ≡ Rest
   rests = (standing.keeps).floor_phase
 
-  going : is_complete r.records.records ≡ false
+  going : is_complete r.records.items ≡ false
   going = (i.sound).over
 
   stands_alone : StandsFor (seen r Rest false) [] standing.taken standing.pair
@@ -79,11 +79,11 @@ module _ (a : PlainArbiter) (r r' : Run) (i : IsAt Rest a r) (b : IsBeside r r')
   pub pick_phase : HasCome r (next_in r) r' → r'.floor.phase ≡ phase_after (picked_of (next_in r)) r'.floor.pair.entries
   pick_phase h = phase_come r r' (next_in r) i.phased rests h
 
-  over_at : (n : Next) → HasCome r n r' → is_complete r'.records.records ≡ is_over r'.floor.phase
+  over_at : (n : Next) → HasCome r n r' → is_complete r'.records.items ≡ is_over r'.floor.phase
   over_at (Ends v) h =
-      ap is_complete h.records ∙ complete_by_last r.records.records (End v) ∙ sym (ap (λ (f : PlainFloor). is_over f.phase) h.floor)
+      ap is_complete h.records ∙ complete_by_last r.records.items (End v) ∙ sym (ap (λ (f : PlainFloor). is_over f.phase) h.floor)
   over_at (Selects ch reached) h =
-      ap is_complete h.records ∙ complete_by_last r.records.records (Sel ch.event)
+      ap is_complete h.records ∙ complete_by_last r.records.items (Sel ch.event)
       ∙ sym (ap is_over (phase_come r r' (Selects ch reached) i.phased rests h) ∙ not_over r'.floor.pair.entries)
   over_at Waits h = ap is_complete h.records ∙ going ∙ sym (ap (λ (f : PlainFloor). is_over f.phase) h.floor ∙ ap is_over rests)
 
@@ -137,12 +137,12 @@ module _ (a : PlainArbiter) (r r' : Run) (i : IsAt Rest a r) (b : IsBeside r r')
   pub unheard_tells : (f : Phase) (w : Bool) → IsUnheard r r' → (taken : List Line) → Tells (seen r Rest false) taken → Tells (seen r' f w) taken
   unheard_tells f w u taken t = tells_same (seen r Rest false) (seen r' f w) taken b.program b.options u.records u.lines t
 
-  recorded_at : (n : Next) → HasCome r n r' → r'.records.records ≡ r.records.records ++ option_to_list (record_of n)
+  recorded_at : (n : Next) → HasCome r n r' → r'.records.items ≡ r.records.items ++ option_to_list (record_of n)
   recorded_at (Ends v) h = h.records
   recorded_at (Selects ch reached) h = h.records
-  recorded_at Waits h = h.records ∙ sym (append-nil r.records.records)
+  recorded_at Waits h = h.records ∙ sym (append-nil r.records.items)
 
-  pub pick_recorded : HasCome r (next_in r) r' → (c : Configuration Origin) → Recounts a c → r'.records.records ≡ a.records ++ option_to_list (record_of (coming a c))
+  pub pick_recorded : HasCome r (next_in r) r' → (c : Configuration Origin) → Recounts a c → r'.records.items ≡ a.records ++ option_to_list (record_of (coming a c))
   pick_recorded h c k =
       recorded_at (next_in r) h ∙ ap (λ (x : PlainArbiter). x.records ++ option_to_list (record_of (next_in r))) (sym i.is)
       ∙ ap (λ (n : Next). a.records ++ option_to_list (record_of n)) (sym (pick_next c k))

@@ -1,7 +1,6 @@
 pub mod Calls
 pub mod Arbiters
 pub mod Sound
-pub mod Recording
 pub mod Runs
 pub mod Absorb
 pub mod Pick

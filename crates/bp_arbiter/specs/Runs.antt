@@ -1,5 +1,5 @@
 -- A run, and what comes next in it.
-use Rattle.std.specs.Prelude.{◌≡◌, ℕ, ◌≤◌, Bool, false, List, [], ◌∷◌, ◌++◌, Option, Some, None, Ok}
+use Rattle.std.specs.Prelude.{◌≡◌, ℕ, ◌≤◌, ◌<◌, vec_len, vec_capacity, Bool, false, List, [], ◌∷◌, ◌++◌, Option, Some, None, Ok}
 use Rattle.js_data.specs.Event.{PlainEvent}
 use Rattle.js_meaning.specs.Bodies.{Origin, the_top}
 use Rattle.bp_log.specs.declared.record.Record.TheVariants.{Sel, End}
@@ -25,7 +25,7 @@ seen r phase broken =
       drawn = r.draw.drawn;
       reading = r.reading;
       bad = r.bad;
-      records = r.records.records;
+      records = r.records.items;
       phase = phase;
       broken = broken;
     }
@@ -34,6 +34,10 @@ seen r phase broken =
 abbrev pub configuration_of : Run → Configuration Origin
 configuration_of r =
     record { stand = r.floor.pair.stand; drawn = r.draw.drawn; reading = r.reading; bad = r.bad }
+
+-- one record more has its place already
+abbrev pub HasPlace : Run → Type 0
+HasPlace r = vec_len r.records < vec_capacity r.records
 
 -- what comes next there
 abbrev pub next_in : Run → Next
@@ -67,7 +71,7 @@ pub record IsBeside (old new : Run) : Type 0 where
 
 -- out of memory: neither records nor lines have changed
 pub record IsUnheard (old new : Run) : Type 0 where
-  pub records : new.records.records ≡ old.records.records
+  pub records : new.records.items ≡ old.records.items
   pub lines : lines_in new ≡ lines_in old
 
 abbrev pub ended_floor : PlainFloor → Verdict → PlainFloor
@@ -76,7 +80,7 @@ ended_floor f v = record f { pair = record f.pair { stand = over f.pair.stand v 
 -- it ends: the verdict has its line and its record
 pub record IsEnded (old : Run) (v : Verdict) (new : Run) : Type 0 where
   pub floor : new.floor ≡ ended_floor old.floor v
-  pub records : new.records.records ≡ old.records.records ++ End v ∷ []
+  pub records : new.records.items ≡ old.records.items ++ End v ∷ []
   pub drawn : old.draw.drawn ≤ new.draw.drawn
 
 -- an event is selected
@@ -87,13 +91,13 @@ pub record IsMoved (old : Run) (ch : Choice) (reached : List Touched) (new : Run
       ≡ forgotten the_top (stepped (code_on old.floor) old.floor.pair.stand ch.event ch.place reached)
   pub phase_is : new.floor.phase ≡ phase_of new.floor.pair
   pub whole : new.floor.broken ≡ false
-  pub records : new.records.records ≡ old.records.records ++ Sel ch.event ∷ []
+  pub records : new.records.items ≡ old.records.items ++ Sel ch.event ∷ []
   pub drawn : new.draw.drawn ≡ ch.drawn
 
 -- nothing has changed
 pub record IsStill (old new : Run) : Type 0 where
   pub floor : new.floor ≡ old.floor
-  pub records : new.records.records ≡ old.records.records
+  pub records : new.records.items ≡ old.records.items
   pub drawn : new.draw.drawn ≡ old.draw.drawn
 
 -- what comes next has come

@@ -44,7 +44,7 @@ pub record IsTurned (old : Run) (jobs : List Job) (new : Run) : Type 0 where
   pub pair_is : let q = turned_in old jobs in new.floor.pair ≡ ended_with q.stand.verdict q
   pub phase_is : new.floor.phase ≡ phase_of new.floor.pair
   pub whole : new.floor.broken ≡ false
-  pub records : new.records.records ≡ old.records.records ++ ending (turned_in old jobs).stand.verdict
+  pub records : new.records.items ≡ old.records.items ++ ending (turned_in old jobs).stand.verdict
   pub drawn : new.draw.drawn ≡ old.draw.drawn
 
 -- the lines are those of the turn
@@ -54,5 +54,5 @@ pub record HasTurned (old : Run) (jobs : List Job) (new : Run) : Type 0 where
 
 -- out of memory: the records are as before, and the lines are those from before or those of the turn
 pub record IsCutOff (old : Run) (jobs : List Job) (new : Run) : Type 0 where
-  pub records : new.records.records ≡ old.records.records
+  pub records : new.records.items ≡ old.records.items
   pub lines : (lines_in new ≡ lines_in old) ⊎ HasTurned old jobs new

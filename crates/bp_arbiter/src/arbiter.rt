@@ -26,11 +26,10 @@ ghost use Rattle.bp_arbiter.specs.Seal.{ending, after_turn};
 
 use crate::numbers::Numbers;
 use crate::picked::Picked;
-use crate::records::RecordList;
 use crate::run::Run;
 use bp_floor::{Absorb, Floor, Phase};
 use bp_log::limits::MOST_WAITING;
-use bp_log::{Item, Lines, Memory, Options, Record, Records, Verdict};
+use bp_log::{Item, Lines, Memory, Options, Record, Records, Verdict, verdict_of};
 use bp_select::{Draw, Enabled, SelectFault};
 use bp_thread::Job;
 use js_frames::Ground;
@@ -105,7 +104,7 @@ impl Arbiter {
                 draw: Draw::new(options.seed()),
                 reading: Numbers::below(alloc, options.injectors())?,
                 bad: None,
-                records: RecordList::new(alloc),
+                records: Vec::new(alloc),
             },
             phase: Phase::Ready,
             broken: false,
@@ -171,7 +170,7 @@ impl Arbiter {
         ensures recorded { option_map (λ v. v.now) result ≡ verdict_of self.now.records }
         ensures over { IsSome result ↔ (self.now.phase ≡ phase.Over) }
     {
-        self.run.records.verdict()
+        verdict_of(self.run.records.as_slice())
     }
 
     /// Whether the injector has ended.
@@ -271,7 +270,7 @@ impl Arbiter {
         if !self.fits(&item) {
             return Err(Absorb::Full(item));
         }
-        if self.broken || self.run.records.reserve().is_err() {
+        if self.broken || self.run.records.reserve(1).is_err() {
             return Err(Absorb::Memory(item));
         }
         // For the proof: what the floor keeps.

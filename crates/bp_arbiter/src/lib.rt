@@ -7,7 +7,6 @@
 mod arbiter;
 mod numbers;
 mod picked;
-mod records;
 mod run;
 
 pub use arbiter::Arbiter;

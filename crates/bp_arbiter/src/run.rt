@@ -9,12 +9,11 @@ ghost use Rattle.bp_floor.specs.declared.phase.Phase.TheVariants as phase;
 ghost use Rattle.bp_floor.specs.Floors.{AreBack, CanGo, is_idle};
 ghost use Rattle.bp_arbiter.specs.Absorb.{absorbed, fits, is_failed};
 ghost use Rattle.bp_arbiter.specs.Pick.{picked_of};
-ghost use Rattle.bp_arbiter.specs.Runs.{seen, next_in, next_chosen_in, next_idle_in, ends_or_waits, IsBeside, IsUnheard, IsEnded, HasCome};
+ghost use Rattle.bp_arbiter.specs.Runs.{seen, next_in, next_chosen_in, next_idle_in, ends_or_waits, HasPlace, IsBeside, IsUnheard, IsEnded, HasCome};
 ghost use Rattle.bp_arbiter.specs.Seal.{IsTurned, IsCutOff};
 
 use crate::numbers::Numbers;
 use crate::picked::Picked;
-use crate::records::RecordList;
 use bp_floor::{Absorb, Floor, Phase, Went};
 use bp_log::limits::MOST_WAITING;
 use bp_log::{Item, Memory, Record, Records, Verdict};
@@ -35,7 +34,7 @@ pub struct Run {
     /// The first bad line of an injector: the injector, and the line's number.
     pub bad: Option<(u32, u32)>,
     /// What was recorded.
-    pub records: RecordList,
+    pub records: Vec<Record>,
 }
 
 impl Drop for Run {
@@ -54,7 +53,7 @@ impl Run {
     /// The run ends in the verdict, which gets its line and its record.
     fn end(&mut self, verdict: Verdict) -> Result<Picked, Memory>
         requires idle { is_idle self.old.floor.phase ≡ true }
-        requires place { self.old.records.has_place ≡ true }
+        requires place { HasPlace self.old }
         ensures over { IfOk result (λ k. k ≡ Picked.Over) }
         ensures ended { OnOk result (IsEnded self.old verdict self.new) }
         ensures beside { IsBeside self.old self.new }
@@ -64,7 +63,7 @@ impl Run {
     {
         let line = verdict.copy()?;
         self.floor.end(line)?;
-        self.records.put(Record::End(verdict));
+        self.records.push_reserved(Record::End(verdict));
         Ok(Picked::Over)
     }
 
@@ -87,7 +86,7 @@ impl Run {
     /// Nothing is selectable: the run ends, or waits for an injector.
     fn idle(&mut self) -> Result<Picked, Memory>
         requires rest { self.old.floor.phase ≡ phase.Rest }
-        requires place { self.old.records.has_place ≡ true }
+        requires place { HasPlace self.old }
         ensures picked { IfOk result (λ k. k ≡ picked_of (next_idle_in self.old)) }
         ensures comes { OnOk result (HasCome self.old (next_idle_in self.old) self.new) }
         ensures beside { IsBeside self.old self.new }
@@ -105,7 +104,7 @@ impl Run {
     fn select(&mut self, alloc: Global, event: Event, place: Option<u32>) -> Result<Picked, Memory>
         requires rest { self.old.floor.phase ≡ phase.Rest }
         requires can { CanGo self.old.floor event place }
-        requires place { self.old.records.has_place ≡ true }
+        requires place { HasPlace self.old }
         ensures picked { IfOk result (λ k. k ≡ picked_of (next_chosen_in self.old event place)) }
         ensures comes { OnOk result
             (HasCome self.old (next_chosen_in self.old event place) self.new) }
@@ -120,7 +119,7 @@ impl Run {
         }
         match self.floor.go(alloc, &event, place)? {
             Went::Moved => {
-                self.records.put(Record::Sel(event));
+                self.records.push_reserved(Record::Sel(event));
                 Ok(Picked::Moved)
             }
             Went::Stopped(verdict) => self.end(verdict),
@@ -133,7 +132,7 @@ impl Run {
         requires within { place < length self.old.floor.pair.stand.queue }
         requires can { (e : PlainEvent) → slice_get self.old.floor.pair.stand.queue place ≡ Some e →
             CanGo self.old.floor e (Some place) }
-        requires place { self.old.records.has_place ≡ true }
+        requires place { HasPlace self.old }
         ensures picked { IfOk result (λ k. (e : PlainEvent) →
             slice_get self.old.floor.pair.stand.queue place ≡ Some e →
             k ≡ picked_of (next_chosen_in self.old e (Some place))) }
@@ -164,7 +163,7 @@ impl Run {
     {
         // For the proof: what the floor keeps.
         self.floor.keeps();
-        self.records.reserve()?;
+        self.records.reserve(1)?;
         match self.floor.choose(alloc, &mut self.draw) {
             Ok(Choice::Internal(event)) => self.select(alloc, event, None),
             Ok(Choice::External(place)) => self.select_queued(alloc, place),
@@ -181,7 +180,7 @@ impl Run {
     fn offer(&mut self, injector: u32, event: Event) -> Result<(), Absorb>
         requires rest { self.old.floor.phase ≡ phase.Rest }
         requires room { has_room self.old.floor.pair.stand ≡ true }
-        requires place { self.old.records.has_place ≡ true }
+        requires place { HasPlace self.old }
         ensures absorbed { OnOk result ((f : Phase) (b : Bool) →
             seen self.new f b ≡ absorbed injector (item.Offered event) (seen self.old f b)) }
         ensures refused { IfErr result (λ a. a ≡ absorb.Memory (item.Offered event)) }
@@ -193,7 +192,7 @@ impl Run {
             return Err(Absorb::Memory(Item::Offered(event)));
         };
         self.floor.enqueue(event)?;
-        self.records.put(Record::In(injector, kept));
+        self.records.push_reserved(Record::In(injector, kept));
         Ok(())
     }
 
@@ -202,7 +201,7 @@ impl Run {
         requires rest { self.old.floor.phase ≡ phase.Rest }
         requires sound { is_failed item ≡ false }
         requires fits { fits self.old.floor.pair.stand item ≡ true }
-        requires place { self.old.records.has_place ≡ true }
+        requires place { HasPlace self.old }
         ensures absorbed { OnOk result ((f : Phase) (b : Bool) →
             seen self.new f b ≡ absorbed injector item (seen self.old f b)) }
         ensures refused { IfErr result (λ a. a ≡ absorb.Memory item) }
@@ -215,13 +214,13 @@ impl Run {
             Item::Bad(line) => {
                 self.reading.take_away(injector);
                 self.bad = first_bad(self.bad, injector, line);
-                self.records.put(Record::Bad(injector, line));
+                self.records.push_reserved(Record::Bad(injector, line));
                 Ok(())
             }
             Item::Failed => unreachable!(),
             Item::End => {
                 self.reading.take_away(injector);
-                self.records.put(Record::Eof(injector));
+                self.records.push_reserved(Record::Eof(injector));
                 Ok(())
             }
         }
@@ -237,7 +236,7 @@ impl Run {
         ensures beside { IsBeside self.old self.new }
         ensures failed { OnErr result (IsCutOff self.old jobs.items self.new) }
     {
-        self.records.reserve()?;
+        self.records.reserve(1)?;
         let phase = self.floor.seal(alloc, jobs)?;
         if let Some(verdict) = self.floor.verdict() {
             let verdict = verdict.copy()?;
@@ -248,7 +247,7 @@ impl Run {
 
     /// The records, moved out.
     pub fn into_records(self) -> Records
-        ensures { result ≡ self.records.records }
+        ensures { result ≡ self.records.items }
     {
         let Run {
             floor: _,
@@ -257,7 +256,7 @@ impl Run {
             bad: _,
             records,
         } = self;
-        records.into_records()
+        Records::new(records)
     }
 }
 

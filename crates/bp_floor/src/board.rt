@@ -3,8 +3,8 @@ ghost use Rattle.std.specs.Prelude.{◌≡◌, ◌<◌, length, option_map, OnOk
 ghost use Rattle.bp_thread.specs.Views.{plain_statement};
 ghost use Rattle.bp_floor.specs.Returns.{IsStated};
 
-use crate::{Desk, LineList, Seats, Wave};
-use bp_log::{Memory, Verdict};
+use crate::{Desk, Seats, Wave};
+use bp_log::{Lines, Memory, Verdict};
 use bp_thread::Statement;
 
 /// Where a run stands, and what is to be run there: all of a floor that a call changes. It lacks the
@@ -19,7 +19,7 @@ pub struct Board {
     /// The weight of the run so far.
     pub weight: u64,
     /// The lines that were not taken yet.
-    pub lines: LineList,
+    pub lines: Lines,
     /// The verdict, if there is one.
     pub verdict: Option<Verdict>,
     /// What is to be run.

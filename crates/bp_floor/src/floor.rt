@@ -24,7 +24,7 @@ ghost use Rattle.bp_floor.specs.Loans.{AreLent, filled_pair, standing};
 ghost use Rattle.bp_floor.specs.Floors.{StandsFor, StandsWith, AreBack, IsSealed, HadMemory, IsGivenUp, IsPhased, is_idle, CanGo, GoesAs, GoesFrom, ShowsOf, stop_of, told_verdict, code_on, has_on, live_on};
 ghost use Rattle.bp_floor.specs.inner.Absorbing.{IsRefused};
 
-use crate::{Absorb, Board, Desk, Entry, LineList, Phase, Seats, Wave, Went, stop_of_job};
+use crate::{Absorb, Board, Desk, Entry, Phase, Seats, Wave, Went, stop_of_job};
 use bp_log::limits::MOST_WAITING;
 use bp_log::{Item, Line, Lines, Memory, Options, Verdict};
 use bp_select::{Choice, Draw, Enabled, SelectFault};
@@ -114,7 +114,7 @@ impl Floor {
         let ground = Ground::bare(alloc, program);
         let seats = Seats::new(alloc);
         let desk = Desk::new(alloc);
-        let lines = LineList::new(alloc);
+        let lines = Lines::new(Vec::new(alloc));
         let board = Board {
             seats,
             desk,

@@ -21,8 +21,8 @@ ghost use Rattle.bp_floor.specs.inner.Kept.{Running, AreBelow, IsKept, IsOn};
 ghost use Rattle.bp_floor.specs.Loans.{filled, filled_pair, has_body};
 ghost use Rattle.bp_floor.specs.Returns.{IsBack, IsPut, IsSameBut, IsFilled, IsKeptBy, RunsBelow, Puts, AreAllBack, entry_in, turned_apart};
 
-use crate::{Board, Ending, Entry, LineList, Part, Ran, Rans, Wave};
-use bp_log::{Memory, Options};
+use crate::{Board, Ending, Entry, Part, Ran, Rans, Wave};
+use bp_log::{Lines, Memory, Options};
 use bp_thread::{Job, Outcome, Statement};
 use js_frames::{Effects, Ground};
 use std::alloc::Global;
@@ -256,7 +256,7 @@ impl Board {
         ensures lines { OnErr result (self.new.lines ≡ self.old.lines) }
         ensures verdict { OnErr result (self.new.verdict ≡ None) }
     {
-        let pending = mem::replace(&mut self.lines, LineList::new(alloc));
+        let pending = self.lines.take();
         let wave = mem::replace(&mut self.wave, Wave::new(alloc));
         match self.turn_apart(alloc, ground, options, wave, jobs.into_iter()) {
             Ok(()) => self.join_lines(pending),
@@ -268,7 +268,7 @@ impl Board {
     }
 
     /// The lines of a turn come after those that were not taken yet.
-    fn join_lines(&mut self, pending: LineList) -> Result<(), Memory>
+    fn join_lines(&mut self, pending: Lines) -> Result<(), Memory>
         ensures joined { OnOk result (pair_of self.new ≡ before pending (pair_of self.old)) }
         ensures keeps { OnOk result ((r : Running) (first : ℕ) → IsKept r first self.old →
             IsKept r first self.new) }
@@ -284,7 +284,7 @@ impl Board {
     }
 
     /// Lines and verdict as they were before a turn that was given up.
-    fn give_up(&mut self, pending: LineList)
+    fn give_up(&mut self, pending: Lines)
         ensures lines { self.new.lines ≡ pending }
         ensures verdict { self.new.verdict ≡ None }
     {

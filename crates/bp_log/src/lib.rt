@@ -3,17 +3,18 @@
 
 mod behind;
 mod data;
-pub mod header;
-pub mod item;
+mod header;
+mod item;
 pub mod limits;
-pub mod lines;
-pub mod logs;
+mod lines;
+mod logs;
 pub mod options;
-pub mod parallelism;
-pub mod record;
-pub mod trace;
-pub mod verdict;
-pub mod version;
+mod parallelism;
+mod record;
+mod sequence;
+mod trace;
+mod verdict;
+mod version;
 
 pub use header::Header;
 pub use item::Item;
@@ -21,7 +22,8 @@ pub use lines::{PrintError, line_of, print, whole_line_of};
 pub use logs::{write_header, write_record};
 pub use options::{Options, Strategy};
 pub use parallelism::Parallelism;
-pub use record::{Record, Records};
+pub use record::{Record, Records, verdict_of};
+pub use sequence::Sequence;
 use std::alloc::AllocError;
 pub use trace::{Line, Lines};
 pub use verdict::{Place, Verdict, VerdictKind};

@@ -1,10 +1,9 @@
 //! What is recorded of a run.
 ghost use Rattle.std.specs.Prelude.{◌≡◌, ◌↔◌, IsTrue, IfOk, option_map};
-ghost use Rattle.bp_log.specs.Records.{same_record as record_is_same, verdict_in};
+ghost use Rattle.bp_log.specs.Records.{same_record as record_is_same, verdict_in, verdict_of};
 
-use crate::{Memory, Verdict};
+use crate::{Memory, Sequence, Verdict};
 use js_data::Event;
-use std::marker::Model;
 
 /// One thing that is recorded of a run.
 #[derive(Debug)]
@@ -80,45 +79,15 @@ impl Record {
     }
 }
 
-/// What is recorded of a run, in order. Contracts see it as the list.
-#[derive(Drop)]
-pub struct Records {
-    items: Vec<Record>,
-}
+/// What is recorded of a run, in order.
+pub type Records = Sequence<Record>;
 
-impl Model for Records {
-    ghost use Rattle.std.specs.Prelude.{List};
-    ghost use Rattle.bp_log.specs.declared.record.Record.{Record};
-
-    ghost Value = { List Record };
-
-    ghost use Rattle.std.specs.Coded.{codes};
-    ghost use Rattle.bp_log.specs.contracts.record.Record as e;
-
-    ghost coded = { Prim.hlevel (codes, e.the_row.coded) };
-
-    ghost view = { λ l. l.items.items };
-}
-
-impl Records {
-    /// The list of these records.
-    pub fn new(items: Vec<Record>) -> Records
-        ensures { result ≡ items.items }
-    {
-        Records { items }
-    }
-
-    /// The records, in order.
-    pub fn as_slice(&self) -> &[Record]
-        ensures { result.now ≡ self.now }
-    {
-        self.items.as_slice()
-    }
-
-    /// The records, given back.
-    pub fn into_vec(self) -> Vec<Record>
-        ensures { result.items ≡ self }
-    {
-        self.items
+/// The verdict with which the records end, if they do.
+pub fn verdict_of(records: &[Record]) -> Option<&Verdict>
+    ensures { option_map (λ v. v.now) result ≡ verdict_of records.now }
+{
+    match records.last() {
+        Some(last) => last.verdict(),
+        None => None,
     }
 }

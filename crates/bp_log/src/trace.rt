@@ -1,9 +1,6 @@
 //! What a run prints.
-ghost use Rattle.std.specs.Prelude.{◌≡◌};
-
-use crate::{Place, Verdict};
+use crate::{Place, Sequence, Verdict};
 use js_data::{Event, Text};
-use std::marker::Model;
 
 /// A line of the trace.
 pub enum Line {
@@ -34,45 +31,5 @@ impl Drop for Line {
     }
 }
 
-/// The lines of a trace, in order. Contracts see them as the list.
-#[derive(Drop)]
-pub struct Lines {
-    items: Vec<Line>,
-}
-
-impl Model for Lines {
-    ghost use Rattle.std.specs.Prelude.{List};
-    ghost use Rattle.bp_log.specs.declared.trace.Line.{Line};
-
-    ghost Value = { List Line };
-
-    ghost use Rattle.std.specs.Coded.{codes};
-    ghost use Rattle.bp_log.specs.contracts.trace.Line as e;
-
-    ghost coded = { Prim.hlevel (codes, e.the_row.coded) };
-
-    ghost view = { λ l. l.items.items };
-}
-
-impl Lines {
-    /// The list of these lines.
-    pub fn new(items: Vec<Line>) -> Lines
-        ensures { result ≡ items.items }
-    {
-        Lines { items }
-    }
-
-    /// The lines, in order.
-    pub fn as_slice(&self) -> &[Line]
-        ensures { result.now ≡ self.now }
-    {
-        self.items.as_slice()
-    }
-
-    /// The lines, given back.
-    pub fn into_vec(self) -> Vec<Line>
-        ensures { result.items ≡ self }
-    {
-        self.items
-    }
-}
+/// The lines of a trace, in order.
+pub type Lines = Sequence<Line>;

@@ -53,7 +53,7 @@ returns-in-Ok-Internal-clause-comes c =
     let r = c.args.self.now in
     let s : Run = record r { floor = c.choose.new.self; draw = c.choose.new.draw; records = c.reserve.new.self } in
     let none = no_verdict r.floor (c.keeps.ensures c.requires.whole) c.requires.rest in
-    let choosing : IsChoosing r s = record { floor = c.choose.ensures.same; records = c.reserve.ensures.same; drawn = c.choose.ensures.drawn.0 } in
+    let choosing : IsChoosing r s = record { floor = c.choose.ensures.same; records = c.reserve.ensures.items; drawn = c.choose.ensures.drawn.0 } in
     let n = next_chosen_in s c.in-Ok-Internal.event None in
     subst (λ (n : Next). OnOk c.select.result (HasCome r n c.select.new.self))
     (sym (next_chosen_is r s c.in-Ok-Internal.event None none c.requires.seed c.choose.ensures.same (c.in-Ok-Internal.ensures.chosen ∙ ap (λ (x : Choice). Ok (chosen_of c.args.self.now.floor.pair.stand.queue c.choose.new.draw.drawn x)) c.in-Ok-Internal.field-0-is)))
@@ -77,7 +77,7 @@ returns-in-Ok-External-clause-comes c =
     let r = c.args.self.now in
     let s : Run = record r { floor = c.choose.new.self; draw = c.choose.new.draw; records = c.reserve.new.self } in
     let none = no_verdict r.floor (c.keeps.ensures c.requires.whole) c.requires.rest in
-    let choosing : IsChoosing r s = record { floor = c.choose.ensures.same; records = c.reserve.ensures.same; drawn = c.choose.ensures.drawn.0 } in
+    let choosing : IsChoosing r s = record { floor = c.choose.ensures.same; records = c.reserve.ensures.items; drawn = c.choose.ensures.drawn.0 } in
     let place = c.in-Ok-External.place in
     let chosen = c.in-Ok-External.ensures.chosen ∙ ap (λ (x : Choice). Ok (chosen_of r.floor.pair.stand.queue s.draw.drawn x)) c.in-Ok-External.field-0-is in
     let e = found s.floor.pair.stand.queue place
@@ -103,7 +103,7 @@ returns-in-Ok-Nothing-clause-comes c =
     let r = c.args.self.now in
     let s : Run = record r { floor = c.choose.new.self; draw = c.choose.new.draw; records = c.reserve.new.self } in
     let none = no_verdict r.floor (c.keeps.ensures c.requires.whole) c.requires.rest in
-    let choosing : IsChoosing r s = record { floor = c.choose.ensures.same; records = c.reserve.ensures.same; drawn = c.choose.ensures.drawn.0 } in
+    let choosing : IsChoosing r s = record { floor = c.choose.ensures.same; records = c.reserve.ensures.items; drawn = c.choose.ensures.drawn.0 } in
     let n = next_idle_in s in
     subst (λ (n : Next). OnOk c.idle.result (HasCome r n c.idle.new.self))
     (sym (next_idle_is r s none c.requires.seed c.choose.ensures.same refl refl (c.in-Ok-Nothing.ensures.chosen ∙ ap (λ (x : Choice). Ok (chosen_of c.args.self.now.floor.pair.stand.queue c.choose.new.draw.drawn x)) c.in-Ok-Nothing.field-0-is)))
@@ -123,7 +123,7 @@ returns-in_ok-verdict-in-Err-Set-clause-comes c =
     let r = c.args.self.now in
     let s : Run = record r { floor = c.choose.new.self; draw = c.choose.new.draw; records = c.reserve.new.self } in
     let none = no_verdict r.floor (c.keeps.ensures c.requires.whole) c.requires.rest in
-    let choosing : IsChoosing r s = record { floor = c.choose.ensures.same; records = c.reserve.ensures.same; drawn = c.choose.ensures.drawn.0 } in
+    let choosing : IsChoosing r s = record { floor = c.choose.ensures.same; records = c.reserve.ensures.items; drawn = c.choose.ensures.drawn.0 } in
     subst (λ (n : Next). OnOk c.end.result (HasCome r n c.end.new.self))
     (sym (next_faulty r s.floor c.in-Err-Set.number c.in-Err-Set.fault c.in_ok-verdict-in-Err-Set.verdict none c.requires.seed c.choose.ensures.same
     (subst (λ (x : SelectFault). FaultAs (choice_in c.args.self.now) x) c.in-Err-Set.field-0-is c.in-Err-Set.ensures.chosen) (fault_told s.floor c.in_ok-verdict-in-Err-Set.verdict _ c.in-Err-Set.number _ c.in-Err-Set.fault c.in-Err-Set.number-is c.in-Err-Set.fault-is (verdict_for s.floor.pair.stand _ _ c.in_ok-verdict-in-Err-Set.verdict c.in_ok-verdict-in-Err-Set.ensures))))
