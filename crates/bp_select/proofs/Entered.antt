@@ -8,9 +8,9 @@ use Rattle.js_data.specs.Event.{PlainEvent, same_event}
 use Rattle.js_data.proofs.Shared.{drop_is}
 use Rattle.js_value.specs.Value.{PlainSet}
 use Rattle.bp_run.specs.Selecting.{Live}
-use Rattle.bp_select.specs.Candidates.{candidate_of, tops_of}
+use Rattle.bp_select.specs.inner.Candidates.{candidate_of, tops_of}
 use Rattle.bp_select.specs.declared.key.Key.{Key}
-use Rattle.bp_select.specs.Tops.{Top, raised, with_request, with_requests, with_live}
+use Rattle.bp_select.specs.inner.Tops.{Top, raised, with_request, with_requests, with_live}
 use Rattle.bp_select.proofs.TopLemmas.{request_at}
 
 module _ {K : Type 0} (f : K → PlainEvent) where

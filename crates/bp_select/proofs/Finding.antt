@@ -15,12 +15,15 @@ use Rattle.bp_roll.proofs.Listing.{in_more}
 use Rattle.bp_select.specs.declared.bench.Stated.{Stated}
 use Rattle.bp_select.specs.declared.answers.SelectFault.{SelectFault}
 use Rattle.bp_select.specs.declared.answers.Reach.{Reach}
-use Rattle.bp_select.specs.Answers.{AddsTouch, FaultAs}
-use Rattle.bp_select.specs.Feeding.{event_key}
-use Rattle.bp_select.specs.Heeding.{Each, IsNoted, Stays, any_key}
-use Rattle.bp_select.specs.Lives.{live_of}
-use Rattle.bp_select.specs.Parts.{IsPart}
-use Rattle.bp_select.specs.Places.{place_in, is_number, AreInOrder}
+use Rattle.bp_select.specs.inner.Touches.{AddsTouch}
+use Rattle.bp_select.specs.Answers.{FaultAs}
+use Rattle.bp_select.specs.inner.Feeding.{event_key}
+use Rattle.bp_select.specs.Tallies.{Each}
+use Rattle.bp_select.specs.inner.Heeding.{IsNoted, Stays, any_key}
+use Rattle.bp_select.specs.inner.Lives.{live_of}
+use Rattle.bp_select.specs.inner.Parts.{IsPart}
+use Rattle.bp_select.specs.inner.Numbers.{place_in, is_number}
+use Rattle.bp_select.specs.Places.{AreInOrder}
 use Rattle.bp_select.proofs.HeedLemmas.{each_at, in_push, in_pushed, number_at, place_own}
 use Rattle.bp_select.proofs.Leaving.{at_within}
 use Rattle.bp_select.proofs.PartLemmas.{part_push, part_skip}

@@ -11,8 +11,8 @@ use Rattle.js_data.proofs.Shared.{drop_is}
 use Rattle.js_value.specs.Value.{PlainSet}
 use Rattle.bp_run.specs.Selecting.{Live}
 use Rattle.bp_run.specs.Choosing.{is_first_of}
-use Rattle.bp_select.specs.Candidates.{is_first}
-use Rattle.bp_select.specs.Keys.{same_sym}
+use Rattle.bp_select.specs.inner.Candidates.{is_first}
+use Rattle.bp_select.specs.inner.Keys.{same_sym}
 
 -- ---- keys of events
 

@@ -19,13 +19,15 @@ use Rattle.bp_roll.specs.Rolls.{PlainRoll, is_in, is_noted}
 use Rattle.bp_known.specs.Known.{Sets}
 use Rattle.bp_select.specs.declared.bench.Stated.{Stated}
 use Rattle.bp_select.specs.declared.heeds.Heeds as heeds
-use Rattle.bp_select.specs.Blocks as blocks
+use Rattle.bp_select.specs.inner.BlockSets.{AreOfUnchanged}
 use Rattle.bp_select.specs.Benches.{live_at, placed}
-use Rattle.bp_select.specs.Feeding.{event_key}
-use Rattle.bp_select.specs.Heeding.{AreKept, AreNoted, Each, HaveKeysOf, HeedsAt, IsNoted, Stays, TouchedAt, WhereWhole, any_key, asks_key, blocks_key}
-use Rattle.bp_select.specs.Lives.{live_of}
-use Rattle.bp_select.specs.Parts.{asks_nothing, blocks_nothing}
-use Rattle.bp_select.specs.Places.{place_in, is_number, AreAbove, AreInOrder}
+use Rattle.bp_select.specs.inner.Feeding.{event_key}
+use Rattle.bp_select.specs.inner.Heeding.{AreKept, AreNoted, HaveKeysOf, HeedsAt, IsNoted, Stays, TouchedAt, WhereWhole, any_key, asks_key, blocks_key}
+use Rattle.bp_select.specs.Tallies.{Each}
+use Rattle.bp_select.specs.inner.Lives.{live_of}
+use Rattle.bp_select.specs.inner.Parts.{asks_nothing, blocks_nothing}
+use Rattle.bp_select.specs.inner.Numbers.{place_in, is_number}
+use Rattle.bp_select.specs.Places.{AreAbove, AreInOrder}
 use Rattle.bp_select.proofs.Noting.{noted_placed, noted_more}
 use Rattle.bp_select.proofs.Putting.{above, place_of_one}
 
@@ -368,7 +370,7 @@ numbers_all all i ns low h = subst (λ (xs : List Stated). Each (λ t. is_in t.n
 pub kept_more : (n : ℕ) (ts us : List (Live PlainSet)) (sets : Sets) (changed numbers : List ℕ) (old new : heeds.Heeds) → us ≡ ts → numbers ≡ changed ++ n ∷ [] →
     ((vs : List (Live PlainSet)) → WhereWhole old.whole vs old.roll old.changed.items → WhereWhole new.whole vs new.roll new.changed.items) → AreKept ts sets changed old → AreKept us sets numbers new
 kept_more n ts us sets changed numbers old new e q others k = record {
-  blocking = subst (λ (xs : List ℕ). blocks.IsNoted us sets xs) (sym q) (noted_more n ts us sets changed e k.blocking);
+  blocking = subst (λ (xs : List ℕ). AreOfUnchanged us sets xs) (sym q) (noted_more n ts us sets changed e k.blocking);
   heeding = others us (subst (λ (xs : List (Live PlainSet)). WhereWhole old.whole xs old.roll old.changed.items) (sym e) k.heeding);
 }
 

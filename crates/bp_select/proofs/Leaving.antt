@@ -8,10 +8,11 @@ use Rattle.js_data.specs.Event.{PlainEvent}
 use Rattle.bp_run.specs.Selecting.{Live, requests, requested}
 use Rattle.bp_thread.specs.Views.{plain_statement}
 use Rattle.bp_select.specs.declared.bench.Stated.{Stated}
-use Rattle.bp_select.specs.Lives.{live_of}
-use Rattle.bp_select.specs.Lists.{live_in, gap, gone_in, is_gap, AreCounted}
+use Rattle.bp_select.specs.inner.Lives.{live_of}
+use Rattle.bp_select.specs.inner.Lists.{live_in, gap, gone_in, is_gap, HasGaps}
 use Rattle.bp_select.specs.Benches.{live_at, placed}
-use Rattle.bp_select.specs.Places.{place_in, is_number, AreAbove, AreInOrder}
+use Rattle.bp_select.specs.inner.Numbers.{place_in, is_number}
+use Rattle.bp_select.specs.Places.{AreAbove, AreInOrder}
 use Rattle.bp_select.proofs.Putting.{above, above_trans, order_placed, place_of_one, placed_before, placed_at, placed_after, put_set, put_insert}
 
 -- ---- those that are live
@@ -151,13 +152,13 @@ at_within n k [] h = absurd (cc)
 at_within n zero (x ∷ xs) h = omega arith
 at_within n (suc k) (x ∷ xs) h = let m = at_within n k xs h in omega (arith, m)
 
-module _ (xs : List Stated) (count k : ℕ) (counted : AreCounted xs count) where
+module _ (xs : List Stated) (count k : ℕ) (counted : HasGaps xs count) where
   pub put_over : (x d : Stated) → x.here ≡ true → k ≡ place_in x.number (map live_of xs) → is_number x.number (slice_get (map live_of xs) k) ≡ true →
       live_in (set xs k x) ≡ placed x.number (Some (plain_statement x.statement)) (live_in xs)
   put_over x d here at is = set_live x.number x (Some (plain_statement x.statement)) (shows_live x here) xs k counted.order at is
 
   pub put_over_counted : (x d : Stated) (c : ℕ) → x.here ≡ true → k ≡ place_in x.number (map live_of xs) → is_number x.number (slice_get (map live_of xs) k) ≡ true → c ≡ gap (get_or xs k d) →
-      AreCounted (set xs k x) (count - c)
+      HasGaps (set xs k x) (count - c)
   put_over_counted x d c here at is gaps =
       let m = gone_set xs k x d (at_within x.number k xs is) in
       let z : gap x ≡ 0 = ap (λ (b : Bool). if b then 0 else 1) here in
@@ -178,7 +179,7 @@ module _ (xs : List Stated) (count k : ℕ) (counted : AreCounted xs count) wher
       live_in (insert xs k x) ≡ placed x.number (Some (plain_statement x.statement)) (live_in xs)
   put_more x here at is = insert_live x.number x (Some (plain_statement x.statement)) (shows_live x here) xs k counted.order at is
 
-  pub put_more_counted : (x : Stated) → x.here ≡ true → k ≡ place_in x.number (map live_of xs) → is_number x.number (slice_get (map live_of xs) k) ≡ false → AreCounted (insert xs k x) count
+  pub put_more_counted : (x : Stated) → x.here ≡ true → k ≡ place_in x.number (map live_of xs) → is_number x.number (slice_get (map live_of xs) k) ≡ false → HasGaps (insert xs k x) count
   put_more_counted x here at is =
       let m = gone_insert xs k x in
       let z : gap x ≡ 0 = ap (λ (b : Bool). if b then 0 else 1) here in
@@ -197,8 +198,8 @@ same_set [] k x d h e = absurd (omega arith)
 same_set (y ∷ xs) zero x d h e = ap (λ (t : Live PlainSet). t ∷ map live_of xs) e
 same_set (y ∷ xs) (suc k) x d h e = ap (λ (ts : List (Live PlainSet)). live_of y ∷ ts) (same_set xs k x d (omega (arith, h)) e)
 
-pub taken_counted : (xs : List Stated) (count k n : ℕ) (x d : Stated) (c : ℕ) → AreCounted xs count → x.here ≡ false → live_of x ≡ live_of (get_or xs k d) → is_number n (slice_get (map live_of xs) k) ≡ true → c ≡ gap (get_or xs k d) →
-    AreCounted (set xs k x) (count + (1 - c))
+pub taken_counted : (xs : List Stated) (count k n : ℕ) (x d : Stated) (c : ℕ) → HasGaps xs count → x.here ≡ false → live_of x ≡ live_of (get_or xs k d) → is_number n (slice_get (map live_of xs) k) ≡ true → c ≡ gap (get_or xs k d) →
+    HasGaps (set xs k x) (count + (1 - c))
 taken_counted xs count k n x d c counted here like is gaps =
     let m = gone_set xs k x d (at_within n k xs is) in
     let z : gap x ≡ 1 = ap (λ (b : Bool). if b then 0 else 1) here in
@@ -226,7 +227,7 @@ gone_filter (x ∷ xs) = by x.here refl (gone_filter xs)
     by true e ih = let z : gap x ≡ 0 = ap (λ (b : Bool). if b then 0 else 1) e in ap (λ (b : Bool). gone_in (if b then x ∷ filter (λ s. s.here) xs else filter (λ s. s.here) xs)) e ∙ omega (arith, z, ih)
     by false e ih = ap (λ (b : Bool). gone_in (if b then x ∷ filter (λ s. s.here) xs else filter (λ s. s.here) xs)) e ∙ ih
 
-pub tidy_counted : (xs ys : List Stated) (count : ℕ) → ys ≡ filter (λ s. s.here) xs → AreCounted xs count → AreCounted ys 0
+pub tidy_counted : (xs ys : List Stated) (count : ℕ) → ys ≡ filter (λ s. s.here) xs → HasGaps xs count → HasGaps ys 0
 tidy_counted xs ys count e k = record {
   order = subst (λ (zs : List Stated). AreInOrder (map live_of zs)) (sym e) (order_live xs k.order);
   gone = sym (ap gone_in e ∙ gone_filter xs);

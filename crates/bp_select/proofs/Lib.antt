@@ -14,5 +14,6 @@ pub mod Noting
 pub mod HeedLemmas
 pub mod Finding
 pub mod PartLemmas
+pub mod Readiness
 pub mod CountLemmas
 pub mod TallyLemmas

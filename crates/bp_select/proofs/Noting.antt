@@ -10,10 +10,12 @@ use Rattle.bp_run.specs.Bodies.{Statement}
 use Rattle.bp_run.specs.Selecting.{Live}
 use Rattle.bp_select.specs.declared.bench.Stated.{Stated}
 use Rattle.bp_select.specs.Benches.{live_at, placed}
-use Rattle.bp_select.specs.Blocks.{AreOf, IsNoted, block_at, own_set}
+use Rattle.bp_select.specs.Blocks.{AreOf, block_at, own_set}
+use Rattle.bp_select.specs.inner.BlockSets.{AreOfUnchanged}
 use Rattle.bp_known.specs.Known.{Sets, restated, sets_in}
-use Rattle.bp_select.specs.Lives.{live_of}
-use Rattle.bp_select.specs.Places.{place_in, is_number, AreAbove, AreInOrder}
+use Rattle.bp_select.specs.inner.Lives.{live_of}
+use Rattle.bp_select.specs.inner.Numbers.{place_in, is_number}
+use Rattle.bp_select.specs.Places.{AreAbove, AreInOrder}
 use Rattle.bp_known.proofs.Knowing.{restated_apart, restated_here}
 use Rattle.bp_select.proofs.Putting.{above, above_trans, place_of_one}
 use Rattle.bp_select.proofs.Telling.{above_block, block_apart, block_index}
@@ -34,7 +36,7 @@ block_placed n m o (t ∷ ts) h = by (nat_lt n t.number) (nat_eq n t.number) ref
     by false true e ih = placed_block n m o ts h ∙ sym (block_apart t ts m (λ q. h (eqb-true n t.number e ∙ q)))
     by false false e ih = ap (λ (r : Option PlainSet). if nat_eq t.number m then own_set t else r) ih
 
-noted_put : (n : ℕ) (o : Option (Statement PlainSet)) (ts us : List (Live PlainSet)) (sets : Sets) (changed : List ℕ) → us ≡ placed n o ts → IsNoted ts sets changed → IsNoted us sets (changed ++ n ∷ [])
+noted_put : (n : ℕ) (o : Option (Statement PlainSet)) (ts us : List (Live PlainSet)) (sets : Sets) (changed : List ℕ) → us ≡ placed n o ts → AreOfUnchanged ts sets changed → AreOfUnchanged us sets (changed ++ n ∷ [])
 noted_put n o ts us sets changed h k = record { each = λ m. by m (cases_eq n m) (k.each m) }
   where
     by : (m : ℕ) → (n ≡ m) ⊎ (n ≢ m) → Contains changed m ⊎ (sets m ≡ block_at ts m) → Contains (changed ++ n ∷ []) m ⊎ (sets m ≡ block_at us m)
@@ -42,7 +44,7 @@ noted_put n o ts us sets changed h k = record { each = λ m. by m (cases_eq n m)
     by m (inr q) (inl c) = inl (Contains-append_left changed (n ∷ []) m c)
     by m (inr q) (inr e) = inr (e ∙ sym (ap (λ (xs : List (Live PlainSet)). block_at xs m) h ∙ block_placed n m o ts q))
 
-pub noted_more : (n : ℕ) (ts us : List (Live PlainSet)) (sets : Sets) (changed : List ℕ) → us ≡ ts → IsNoted ts sets changed → IsNoted us sets (changed ++ n ∷ [])
+pub noted_more : (n : ℕ) (ts us : List (Live PlainSet)) (sets : Sets) (changed : List ℕ) → us ≡ ts → AreOfUnchanged ts sets changed → AreOfUnchanged us sets (changed ++ n ∷ [])
 noted_more n ts us sets changed h k = record { each = λ m. by m (k.each m) }
   where
     by : (m : ℕ) → Contains changed m ⊎ (sets m ≡ block_at ts m) → Contains (changed ++ n ∷ []) m ⊎ (sets m ≡ block_at us m)
@@ -51,12 +53,12 @@ noted_more n ts us sets changed h k = record { each = λ m. by m (k.each m) }
 
 -- whether or not memory ran out
 pub noted_placed : {E : Type 0} (n : ℕ) (o : Option (Statement PlainSet)) (ts us : List (Live PlainSet)) (sets : Sets) (changed numbers : List ℕ) (r : Result (Unit {0}) E) → OnOk r (us ≡ placed n o ts) → OnErr r (us ≡ ts) →
-    numbers ≡ changed ++ n ∷ [] → IsNoted ts sets changed → IsNoted us sets numbers
-noted_placed n o ts us sets changed numbers (Ok x) h k e w = subst (λ (ns : List ℕ). IsNoted us sets ns) (sym e) (noted_put n o ts us sets changed h w)
-noted_placed n o ts us sets changed numbers (Err x) h k e w = subst (λ (ns : List ℕ). IsNoted us sets ns) (sym e) (noted_more n ts us sets changed k w)
+    numbers ≡ changed ++ n ∷ [] → AreOfUnchanged ts sets changed → AreOfUnchanged us sets numbers
+noted_placed n o ts us sets changed numbers (Ok x) h k e w = subst (λ (ns : List ℕ). AreOfUnchanged us sets ns) (sym e) (noted_put n o ts us sets changed h w)
+noted_placed n o ts us sets changed numbers (Err x) h k e w = subst (λ (ns : List ℕ). AreOfUnchanged us sets ns) (sym e) (noted_more n ts us sets changed k w)
 
-pub noted_same : (ts us : List (Live PlainSet)) (sets : Sets) (changed : List ℕ) → us ≡ ts → IsNoted ts sets changed → IsNoted us sets changed
-noted_same ts us sets changed h k = subst (λ (xs : List (Live PlainSet)). IsNoted xs sets changed) (sym h) k
+pub noted_same : (ts us : List (Live PlainSet)) (sets : Sets) (changed : List ℕ) → us ≡ ts → AreOfUnchanged ts sets changed → AreOfUnchanged us sets changed
+noted_same ts us sets changed h k = subst (λ (xs : List (Live PlainSet)). AreOfUnchanged xs sets changed) (sym h) k
 
 -- ---- the block set of a number
 
@@ -100,7 +102,7 @@ rest_of n i ns (suc k, low, e) h = (k, omega (arith, low), e)
 pub record AreSettled (ts : List (Live PlainSet)) (sets : Sets) (changed : List ℕ) (at : ℕ) : Type 0 where
   pub each : (n : ℕ) → Contains (drop at changed) n ⊎ (sets n ≡ block_at ts n)
 
-pub settled_none : (ts : List (Live PlainSet)) (sets : Sets) (changed : List ℕ) → IsNoted ts sets changed → AreSettled ts sets changed 0
+pub settled_none : (ts : List (Live PlainSet)) (sets : Sets) (changed : List ℕ) → AreOfUnchanged ts sets changed → AreSettled ts sets changed 0
 settled_none ts sets changed h = record { each = h.each }
 
 module _ (ts : List (Live PlainSet)) (old new : Sets) (changed : List ℕ) (at number : ℕ) (low : at < length changed) (is : number ≡ get_or changed at number)
@@ -118,7 +120,7 @@ module _ (ts : List (Live PlainSet)) (old new : Sets) (changed : List ℕ) (at n
           inl (rest_of number n (drop (at + 1) changed) (subst (λ (ns : List ℕ). Contains ns n) first c) (apart n e))
       by n false e (inr w) = inr (others n e ∙ w)
 
-  pub settled_fault : AreSettled ts old changed at → IsNoted ts new changed
+  pub settled_fault : AreSettled ts old changed at → AreOfUnchanged ts new changed
   settled_fault h = record { each = λ n. by n (nat_eq number n) refl (h.each n) }
     where
       by : (n : ℕ) (b : Bool) → nat_eq number n ≡ b → Contains (drop at changed) n ⊎ (old n ≡ block_at ts n) → Contains changed n ⊎ (new n ≡ block_at ts n)
@@ -136,7 +138,7 @@ settled_all ts sets changed at low h = record { each = λ n. by n (h.each n) }
         nobody w = omega (arith, w.1)
     by n (inr e) = e
 
-pub noted_of : (ts : List (Live PlainSet)) (sets : Sets) (changed : List ℕ) → AreOf ts sets → IsNoted ts sets changed
+pub noted_of : (ts : List (Live PlainSet)) (sets : Sets) (changed : List ℕ) → AreOf ts sets → AreOfUnchanged ts sets changed
 noted_of ts sets changed h = record { each = λ n. inr (h.each n) }
 
 -- ---- one is restated

@@ -14,9 +14,9 @@ use Rattle.bp_run.specs.Selecting.{Live, Has, Asked, both, by_number, blocked, r
 use Rattle.bp_run.specs.Choosing.{at_most, chosen, drawn_of, greater, is_first_of, is_greatest, priority_of, remaining}
 use Rattle.bp_known.specs.Known.{Sets}
 use Rattle.bp_select.specs.Blocks.{AreOf, block_at, own_set}
-use Rattle.bp_select.specs.Parts.{IsPart, are_none, asks_nothing, blocks_nothing}
+use Rattle.bp_select.specs.inner.Parts.{IsPart, are_none, asks_nothing, blocks_nothing}
 use Rattle.bp_select.specs.Places.{AreAbove, AreInOrder}
-use Rattle.bp_select.specs.Tops.{Top, HaveTops, with_live, with_requests}
+use Rattle.bp_select.specs.inner.Tops.{Top, HaveTops, with_live, with_requests}
 use Rattle.bp_select.proofs.BlockLemmas.{nothing_in}
 use Rattle.bp_select.proofs.Noting.{none_above}
 

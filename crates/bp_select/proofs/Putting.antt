@@ -6,9 +6,10 @@ use Rattle.js_value.specs.Value.{PlainSet}
 use Rattle.bp_run.specs.Bodies.{Statement}
 use Rattle.bp_run.specs.Selecting.{Live}
 use Rattle.bp_select.specs.declared.bench.Stated.{Stated}
-use Rattle.bp_select.specs.Lives.{live_of}
+use Rattle.bp_select.specs.inner.Lives.{live_of}
 use Rattle.bp_select.specs.Benches.{live_at, placed}
-use Rattle.bp_select.specs.Places.{place_in, is_number, AreAbove, AreInOrder}
+use Rattle.bp_select.specs.inner.Numbers.{place_in, is_number}
+use Rattle.bp_select.specs.Places.{AreAbove, AreInOrder}
 
 -- ---- where it stands
 

@@ -11,7 +11,7 @@ use Rattle.bp_run.specs.Selecting.{Live, Has, Asked, by_number, both, blocked, u
 use Rattle.bp_select.specs.declared.bench.Stated.{Stated}
 use Rattle.bp_select.specs.declared.answers.SelectFault.{SelectFault}
 use Rattle.bp_select.specs.declared.answers.SelectFault.TheVariants.{Set, Memory}
-use Rattle.bp_select.specs.Lives.{live_of}
+use Rattle.bp_select.specs.inner.Lives.{live_of}
 use Rattle.bp_select.specs.Answers.{FaultAs}
 
 -- ---- lists

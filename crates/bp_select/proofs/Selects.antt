@@ -12,11 +12,12 @@ use Rattle.bp_run.specs.Choosing.{Choice, drawn_of, chosen, choice}
 use Rattle.bp_select.specs.declared.answers.SelectFault.{SelectFault}
 use Rattle.bp_select.specs.declared.answers.Choice as answer
 use Rattle.bp_select.specs.declared.answers.Choice.TheVariants as answers
-use Rattle.bp_select.specs.Answers.{FaultAs, IsFrom, IsWithin}
-use Rattle.bp_select.specs.Tops.{Top, events_of, with_live, HaveTops}
+use Rattle.bp_select.specs.Answers.{FaultAs, IsWithin}
+use Rattle.bp_select.specs.inner.Eligible.{IsFrom}
+use Rattle.bp_select.specs.inner.Tops.{Top, events_of, with_live, HaveTops}
 use Rattle.js_meaning.specs.State.{Ground}
 use Rattle.bp_meaning.specs.Membership.{member}
-use Rattle.bp_select.specs.Parts.{IsPart, blocks_nothing}
+use Rattle.bp_select.specs.inner.Parts.{IsPart, blocks_nothing}
 use Rattle.bp_select.proofs.PartLemmas.{unblocked_part, first_part}
 use Rattle.bp_run.proofs.Chosen.{first_is}
 use Rattle.bp_select.proofs.Questions.{fault_on}

@@ -25,14 +25,15 @@ use Rattle.bp_select.specs.declared.bench.Stated.{Stated}
 use Rattle.bp_select.specs.Answers.{IsWithin, chosen_of}
 use Rattle.bp_select.specs.Benches.{live_at, placed}
 use Rattle.bp_select.specs.Blocks.{AreOf}
-use Rattle.bp_select.specs.Candidates.{events_in}
+use Rattle.bp_select.specs.inner.Candidates.{events_in}
 use Rattle.bp_select.specs.declared.candidate.Candidate.{Candidate}
-use Rattle.bp_select.specs.Counting.{count_at}
-use Rattle.bp_select.specs.Heeding.{Each, Stays}
-use Rattle.bp_select.specs.Keys.{same_sym}
-use Rattle.bp_select.specs.Lives.{live_of}
-use Rattle.bp_select.specs.Places.{AreAbove, AreInOrder, is_number}
-use Rattle.bp_select.specs.Tallies.{AreApart, AreFreeOf, AreTallied, HasFree, IsAlone, IsCounted, PlainTally, Tallied, Unless, all_free, chosen_as, is_there, or_none}
+use Rattle.bp_select.specs.Tallies.{count_at, Each, AreApart, AreFreeOf, AreTallied, HasFree, PlainTally, Tallied, Unless, is_there}
+use Rattle.bp_select.specs.inner.Heeding.{Stays}
+use Rattle.bp_select.specs.inner.Keys.{same_sym}
+use Rattle.bp_select.specs.inner.Lives.{live_of}
+use Rattle.bp_select.specs.Places.{AreAbove, AreInOrder}
+use Rattle.bp_select.specs.inner.Numbers.{is_number}
+use Rattle.bp_select.specs.inner.Counted.{IsAlone, IsCounted, all_free, chosen_as, or_none}
 use Rattle.bp_select.proofs.HeedLemmas.{each_both, each_map, each_placed, found_each, in_dropped}
 use Rattle.bp_select.proofs.Selects.{choice_of}
 

@@ -1,6 +1,6 @@
 -- Requests that are gathered with the greatest priority of each event.
 use Rattle.std.proofs.Common.{◌≡◌, ℕ, zero, suc, ◌<◌, arith, Bool, true, false, ◌||◌, List, [], ◌∷◌, ◌++◌, length, map, get_or, refl, ap, sym, ◌∙◌, subst, flat_map, if◌then◌else◌, Option, Some, None}
-use Rattle.std.specs.Prelude.{ℤ, int_le}
+use Rattle.std.specs.Prelude.{ℤ}
 use Rattle.std.specs.List.{list_any}
 use Rattle.std.proofs.lemmas.List.Sums.{fold-append}
 use Rattle.js_data.specs.Event.{PlainEvent, same_event}
@@ -9,11 +9,10 @@ use Rattle.js_data.proofs.Shared.{if_true, if_false}
 use Rattle.js_value.specs.Value.{PlainSet}
 use Rattle.bp_run.specs.Selecting.{Live, requests, candidates}
 use Rattle.bp_run.specs.Choosing.{priority_of}
-use Rattle.bp_select.specs.Priorities.{upper}
-use Rattle.bp_select.specs.Tops.{Top, events_of, raised, with_request, with_requests, with_live, HaveTops}
-use Rattle.bp_select.specs.Keys.{same_sym}
+use Rattle.bp_select.specs.inner.Tops.{Top, events_of, raised, with_request, with_requests, with_live, HaveTops}
+use Rattle.bp_select.specs.inner.Keys.{same_sym}
 use Rattle.bp_select.proofs.Gathered.{with_new, with_all, gathered}
-use Rattle.bp_select.proofs.Remains.{upper_twice, upper_none, priority_at}
+use Rattle.bp_select.proofs.Remains.{upper, upper_twice, upper_none, max_self, priority_at}
 
 -- ---- one request
 
@@ -107,12 +106,8 @@ asks_one : (e f : PlainEvent) (p : ℤ) (xs : List Top) → Asks e f p xs
 asks_one e f p [] = refl
 asks_one e f p (x ∷ xs) = asks_one_at e f p x xs (same_event f x.0) refl (asks_one e f p xs)
 
-either_same : (p : ℤ) (b : Bool) → Some (if b then p else p) ≡ Some p
-either_same p true = refl
-either_same p false = refl
-
 upper_self : (p : ℤ) (b : Bool) → upper (Some p) (if b then Some p else None) ≡ Some p
-upper_self p true = either_same p (int_le p p)
+upper_self p true = ap (λ (z : ℤ). Some z) (max_self p)
 upper_self p false = refl
 
 -- a second request of the same priority changes nothing

@@ -13,7 +13,7 @@ use Rattle.bp_run.specs.Choosing.{Touched, touched, reach}
 use Rattle.bp_select.specs.declared.bench.Stated.{Stated}
 use Rattle.bp_select.specs.declared.answers.SelectFault.{SelectFault}
 use Rattle.bp_select.specs.declared.answers.Reach.{Reach}
-use Rattle.bp_select.specs.Lives.{live_of}
+use Rattle.bp_select.specs.inner.Lives.{live_of}
 use Rattle.bp_select.specs.Answers.{FaultAs, move_of, interrupt_of, IsReach}
 use Rattle.bp_select.proofs.Questions.{fault_on}
 

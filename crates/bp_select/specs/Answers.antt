@@ -1,5 +1,5 @@
 -- What a bench answers, as the definitions say it.
-use Rattle.std.specs.Prelude.{◌≡◌, ◌<◌, ◌++◌, ℕ, List, Option, Some, None, Result, Ok, Err, slice_get, option_map, option_to_list, filter_map}
+use Rattle.std.specs.Prelude.{◌≡◌, ◌<◌, ℕ, List, Option, Some, None, Result, Ok, Err, slice_get, option_map, filter_map}
 use Rattle.js_data.specs.Event.{PlainEvent}
 use Rattle.bp_sets.specs.declared.fault.SetFault.TheVariants as set_fault
 use Rattle.bp_run.specs.Bodies as run
@@ -38,12 +38,6 @@ chosen_of queue drawn (External place) =
     option_map (λ e. record { event = e; place = Some place; drawn = drawn }) (slice_get queue place)
 chosen_of queue drawn Nothing = None
 
--- an event of the queue is the one at this place
-abbrev pub IsFrom : Option ℕ → Choice → Type 0
-IsFrom place (Internal e) = Unit {0}
-IsFrom place (External i) = place ≡ Some i
-IsFrom place Nothing = Unit {0}
-
 -- an event of the queue is one of this many
 abbrev pub IsWithin : ℕ → Choice → Type 0
 IsWithin n (Internal e) = Unit {0}
@@ -66,12 +60,3 @@ pub record IsReach (reached : List Touched) (r : Reach) : Type 0 where
 abbrev pub AnswersReach : Asked (List Touched) → Result Reach SelectFault → Type 0
 AnswersReach asked (Ok r) = (reached : List Touched) × (asked ≡ Ok reached) × IsReach reached r
 AnswersReach asked (Err f) = FaultAs asked f
-
--- what happens to one b-thread is added, or its set is at fault
-abbrev pub AddsTouch : Asked (Option Touched) → Reach → Reach → Result (Unit {0}) SelectFault →
-    Type 0
-AddsTouch asked old new (Ok x) =
-    (o : Option Touched) × (asked ≡ Ok o)
-    × (new.moved.items ≡ old.moved.items ++ filter_map move_of (option_to_list o))
-    × (new.interrupted.items ≡ old.interrupted.items ++ filter_map interrupt_of (option_to_list o))
-AddsTouch asked old new (Err f) = FaultAs asked f

@@ -1,17 +1,9 @@
--- What contracts see of block sets.
-use Rattle.std.specs.Prelude.{◌≡◌, ◌⊎◌, ℕ, Bool, nat_eq, List, [], ◌∷◌, Contains, Option, Some, None, if◌then◌else◌}
+-- The block sets of b-threads, by number.
+use Rattle.std.specs.Prelude.{◌≡◌, ℕ, nat_eq, List, [], ◌∷◌, Option, Some, None, if◌then◌else◌}
 use Rattle.js_value.specs.Value.{PlainSet}
 use Rattle.bp_run.specs.Selecting.{Live}
-use Rattle.bp_known.specs.declared.known.Known.{Known}
-use Rattle.bp_known.specs.declared.known.Known.TheVariants.{Free, Blocked}
-use Rattle.bp_known.specs.declared.known.Told.{Told}
 use Rattle.bp_select.specs.Blocking.{is_empty}
 use Rattle.bp_known.specs.Known.{Sets}
-
--- block sets by number, and what is told of events
-pub record PlainBlocks : Type 0 where
-  pub sets : List (ℕ × PlainSet)
-  pub told : List Told
 
 -- the block set of a b-thread, unless it plainly blocks nothing
 abbrev pub own_set : Live PlainSet → Option PlainSet
@@ -25,17 +17,3 @@ block_at (t ∷ ts) n = if nat_eq t.number n then own_set t else block_at ts n
 -- the sets are those of these b-threads
 pub record AreOf (ts : List (Live PlainSet)) (sets : Sets) : Type 0 where
   pub each : (n : ℕ) → sets n ≡ block_at ts n
-
--- the sets are those of these b-threads, but for some numbers
-pub record IsNoted (ts : List (Live PlainSet)) (sets : Sets) (changed : List ℕ) : Type 0 where
-  pub each : (n : ℕ) → Contains changed n ⊎ (sets n ≡ block_at ts n)
-
--- all sets were asked, and that of this b-thread has it, or none
-abbrev pub known_of : Option ℕ → Known
-known_of None = Free
-known_of (Some n) = Blocked n
-
--- the first of two, or this one where it has the event
-abbrev pub first_by : Option ℕ → Bool → ℕ → Option ℕ
-first_by (Some m) here n = Some m
-first_by None here n = if here then Some n else None

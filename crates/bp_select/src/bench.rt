@@ -8,7 +8,7 @@ ghost use Rattle.bp_run.specs.Choosing.{choice, reach};
 ghost use Rattle.bp_meaning.specs.Membership.{member};
 ghost use Rattle.bp_thread.specs.Views.{plain_statement};
 ghost use Rattle.bp_select.specs.Benches.{empty_bench, Fits, placed};
-ghost use Rattle.bp_select.specs.Lives.{live_of};
+ghost use Rattle.bp_select.specs.inner.Lives.{live_of};
 ghost use Rattle.bp_select.specs.Answers.{AnswersAs, AnswersReach, IsWithin, chosen_of, enabled_of};
 
 use crate::asking::blocker;
@@ -26,7 +26,7 @@ use js_frames::Ground;
 use std::alloc::Global;
 use std::marker::Model;
 
-/// A live b-thread.
+/// What a b-thread stated last, also where it is live no more.
 #[derive(Drop)]
 pub(crate) struct Stated {
     /// Its number.
@@ -60,9 +60,9 @@ impl Model for Bench {
     ghost use Rattle.js_data.specs.Codes.{event_code};
     ghost use Rattle.js_value.specs.Codes.{set_code};
     ghost use Rattle.bp_select.specs.Benches.{PlainBench};
-    ghost use Rattle.bp_select.specs.Heeding.{AreKept};
+    ghost use Rattle.bp_select.specs.inner.Heeding.{AreKept};
     ghost use Rattle.bp_known.specs.Known.{sets_in};
-    ghost use Rattle.bp_select.specs.Tallies.{plain_tally};
+    ghost use Rattle.bp_select.specs.inner.Counted.{plain_tally};
 
     ghost Value = { PlainBench };
 

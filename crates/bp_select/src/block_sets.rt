@@ -7,12 +7,13 @@ ghost use Rattle.bp_meaning.specs.Membership.{member};
 ghost use Rattle.bp_run.specs.Selecting.{Live, blocked, first_unblocked, unblocked};
 ghost use Rattle.bp_select.specs.Answers.{AnswersAs};
 ghost use Rattle.bp_known.specs.declared.known.Told.{Told};
-ghost use Rattle.bp_select.specs.Blocks.{AreOf, known_of};
-ghost use Rattle.bp_select.specs.Candidates.{events_in, tops_of};
+ghost use Rattle.bp_select.specs.Blocks.{AreOf};
+ghost use Rattle.bp_select.specs.inner.BlockSets.{known_of};
+ghost use Rattle.bp_select.specs.inner.Candidates.{events_in, tops_of};
 ghost use Rattle.bp_known.specs.Known.{Sets, AreKnown, IsKnown, restated, sets_in};
-ghost use Rattle.bp_select.specs.Lives.{lent};
+ghost use Rattle.bp_select.specs.inner.Lives.{lent};
 ghost use Rattle.bp_select.specs.Places.{AreInOrder};
-ghost use Rattle.bp_select.specs.Tops.{HaveTops};
+ghost use Rattle.bp_select.specs.inner.Tops.{HaveTops};
 
 use crate::SelectFault;
 use crate::asking::blocked_by;
@@ -53,7 +54,7 @@ impl Model for Blocks {
     ghost use Rattle.std.specs.Coded.{codes};
     ghost use Rattle.js_data.specs.Codes.{event_code};
     ghost use Rattle.js_value.specs.Codes.{set_code};
-    ghost use Rattle.bp_select.specs.Blocks.{PlainBlocks};
+    ghost use Rattle.bp_select.specs.inner.BlockSets.{PlainBlocks};
 
     ghost Value = { PlainBlocks };
 

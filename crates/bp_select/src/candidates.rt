@@ -1,8 +1,8 @@
 //! The requested events, each once, in the order in which they first appear.
 ghost use Rattle.std.specs.Prelude.{◌≡◌, ◌∷◌, [], IfOk, OnOk, map};
-ghost use Rattle.bp_select.specs.Lives.{lent, live_of};
-ghost use Rattle.bp_select.specs.Tops.{raised, with_request, with_requests, with_live};
-ghost use Rattle.bp_select.specs.Candidates.{tops_in, tops_of, candidate_of};
+ghost use Rattle.bp_select.specs.inner.Lives.{lent, live_of};
+ghost use Rattle.bp_select.specs.inner.Tops.{raised, with_request, with_requests, with_live};
+ghost use Rattle.bp_select.specs.inner.Candidates.{tops_in, tops_of, candidate_of};
 
 use crate::bench::Stated;
 use crate::candidate::Candidate;
@@ -21,7 +21,7 @@ fn raised(top: Option<i64>, priority: i64) -> i64
 {
     match top {
         None => priority,
-        Some(top) => { if top <= priority { priority } else { top } }
+        Some(top) => top.max(priority),
     }
 }
 

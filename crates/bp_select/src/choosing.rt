@@ -1,14 +1,13 @@
 //! Which of the selectable events remain under a strategy.
-ghost use Rattle.std.specs.Prelude.{◌≡◌, List, map, filter, option_map, find, IfOk};
-ghost use Rattle.std.specs.List.{list_any};
+ghost use Rattle.std.specs.Prelude.{◌≡◌, ℤ, Option, List, map, filter, option_map, find, IfOk};
+ghost use Rattle.std.specs.List.{list_all, list_any};
 ghost use Rattle.js_data.specs.Event.{PlainEvent, same_event};
 ghost use Rattle.js_value.specs.Value.{PlainSet};
 ghost use Rattle.bp_run.specs.Selecting.{Live};
-ghost use Rattle.bp_run.specs.Choosing.{is_first_of, priority_of, at_most, remaining};
-ghost use Rattle.bp_select.specs.Lives.{lent, live_of};
-ghost use Rattle.bp_select.specs.Priorities.{upper, top_of};
-ghost use Rattle.bp_select.specs.Tops.{HaveTops};
-ghost use Rattle.bp_select.specs.Candidates.{events_in, tops_of, is_among, is_first};
+ghost use Rattle.bp_run.specs.Choosing.{is_first_of, greater, priority_of, at_most, is_greatest, remaining};
+ghost use Rattle.bp_select.specs.inner.Lives.{lent, live_of};
+ghost use Rattle.bp_select.specs.inner.Tops.{HaveTops};
+ghost use Rattle.bp_select.specs.inner.Candidates.{events_in, tops_of, is_among, is_first};
 
 use crate::bench::Stated;
 use crate::candidate::{Candidate, keep_if};
@@ -85,27 +84,25 @@ fn ordered<'a>(
     Ok(kept)
 }
 
-/// The greater of the two priorities.
-fn upper(left: Option<i64>, right: Option<i64>) -> Option<i64>
-    ensures { result ≡ upper left right }
+/// The greater of a priority and one that may be there.
+fn greater(priority: i64, top: Option<i64>) -> Option<i64>
+    ensures { result ≡ greater priority top }
 {
-    match left {
-        None => right,
-        Some(a) => match right {
-            None => Some(a),
-            Some(b) => Some(if a <= b { b } else { a }),
-        },
+    match top {
+        None => Some(priority),
+        Some(top) => Some(if priority <= top { top } else { priority }),
     }
 }
 
 /// The greatest priority of the candidates.
 fn top_of(candidates: &[Candidate<'_>]) -> Option<i64>
     ensures { (ts : List (Live PlainSet)) → HaveTops ts (tops_of candidates.now) →
-        result ≡ top_of ts (events_in candidates.now) }
+        (q : Option ℤ) → at_most result q
+        ≡ list_all (λ e. at_most (priority_of ts e) q) (events_in candidates.now) }
 {
     let mut top = None;
     for candidate in candidates {
-        top = upper(top, Some(candidate.top));
+        top = greater(candidate.top, top);
     }
     top
 }
@@ -128,7 +125,7 @@ fn greatest<'a>(alloc: Global, inner: &[Candidate<'a>]) -> Result<Vec<Candidate<
     ensures { let events = events_in inner.now in
         (ts : List (Live PlainSet)) → HaveTops ts (tops_of inner.now) →
         IfOk result (λ l. events_in l.items
-        ≡ filter (λ e. at_most (top_of ts events) (priority_of ts e)) events) }
+        ≡ filter (is_greatest ts events) events) }
 {
     let top = top_of(inner);
     let mut kept = Vec::new(alloc);

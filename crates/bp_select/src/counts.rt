@@ -1,7 +1,8 @@
 //! Counts by number, and of each block of them together, so that one is found without a look at
 //! each.
 ghost use Rattle.std.specs.Prelude.{◌≡◌, ◌<◌, ◌+◌, ◌++◌, ◌∷◌, ℕ, List, [], false, length, nat_eq, sum, take, true, IfOk, IfSome, OnOk};
-ghost use Rattle.bp_select.specs.Counting.{AreSums, count_at};
+ghost use Rattle.bp_select.specs.inner.Counting.{AreSums};
+ghost use Rattle.bp_select.specs.Tallies.{count_at};
 
 use bp_log::Memory;
 use std::alloc::Global;
@@ -21,7 +22,7 @@ pub(crate) struct Counts {
 
 impl Model for Counts {
     ghost use Rattle.std.specs.Prelude.{ℕ, List};
-    ghost use Rattle.bp_select.specs.Counting.{AreSums};
+    ghost use Rattle.bp_select.specs.inner.Counting.{AreSums};
 
     ghost Value = { List ℕ };
 

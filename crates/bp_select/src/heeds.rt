@@ -9,10 +9,12 @@ ghost use Rattle.bp_run.specs.Selecting.{Live};
 ghost use Rattle.bp_run.specs.Choosing.{reach};
 ghost use Rattle.bp_select.specs.declared.bench.Stated.{Stated};
 ghost use Rattle.bp_select.specs.Answers.{AnswersReach};
-ghost use Rattle.bp_select.specs.Heeding.{AreNoted, Each, HeedsAt, IsNoted, Stays, WhereWhole};
-ghost use Rattle.bp_select.specs.Lives.{live_of, lent};
-ghost use Rattle.bp_select.specs.Parts.{IsPart, asks_nothing, blocks_nothing};
-ghost use Rattle.bp_select.specs.Places.{AreInOrder, place_in};
+ghost use Rattle.bp_select.specs.inner.Heeding.{AreNoted, HeedsAt, IsNoted, Stays, WhereWhole};
+ghost use Rattle.bp_select.specs.Tallies.{Each};
+ghost use Rattle.bp_select.specs.inner.Lives.{live_of, lent};
+ghost use Rattle.bp_select.specs.inner.Parts.{IsPart, asks_nothing, blocks_nothing};
+ghost use Rattle.bp_select.specs.Places.{AreInOrder};
+ghost use Rattle.bp_select.specs.inner.Numbers.{place_in};
 
 use crate::bench::Stated;
 use crate::key::hash_of;

@@ -1,8 +1,8 @@
 //! Events as keys of maps.
 ghost use Rattle.std.specs.Prelude.{◌≡◌};
 ghost use Rattle.js_data.specs.Event.{same_event};
-ghost use Rattle.bp_select.specs.Feeding.{event_key, event_writes};
-ghost use Rattle.bp_select.specs.Keys.{same_partial, same_equivalence, same_writes};
+ghost use Rattle.bp_select.specs.inner.Feeding.{event_key, event_writes};
+ghost use Rattle.bp_select.specs.inner.Keys.{same_partial, same_equivalence, same_writes};
 
 use crate::feeding::feed;
 use js_data::Event;

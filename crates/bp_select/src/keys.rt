@@ -7,9 +7,9 @@ ghost use Rattle.js_value.specs.Value.{PlainSet, any as any_of};
 ghost use Rattle.bp_run.specs.Selecting.{Live};
 ghost use Rattle.bp_thread.specs.Views.{stated_set};
 ghost use Rattle.bp_roll.specs.Rolls.{is_in};
-ghost use Rattle.bp_select.specs.Feeding.{event_key};
-ghost use Rattle.bp_select.specs.Heeding.{HaveKeysOf, HeedsAt, TouchedAt};
-ghost use Rattle.bp_select.specs.Lives.{live_of};
+ghost use Rattle.bp_select.specs.inner.Feeding.{event_key};
+ghost use Rattle.bp_select.specs.inner.Heeding.{HaveKeysOf, HeedsAt, TouchedAt};
+ghost use Rattle.bp_select.specs.inner.Lives.{live_of};
 
 use crate::bench::Stated;
 use crate::key::hash_of;

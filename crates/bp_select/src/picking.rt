@@ -5,8 +5,8 @@ ghost use Rattle.js_value.specs.Value.{PlainSet};
 ghost use Rattle.bp_run.specs.Selecting.{Live};
 ghost use Rattle.bp_roll.specs.Rolls.{is_in};
 ghost use Rattle.bp_select.specs.declared.bench.Stated.{Stated};
-ghost use Rattle.bp_select.specs.Lives.{live_of, lent};
-ghost use Rattle.bp_select.specs.Parts.{IsPart, asks_nothing, blocks_nothing};
+ghost use Rattle.bp_select.specs.inner.Lives.{live_of, lent};
+ghost use Rattle.bp_select.specs.inner.Parts.{IsPart, asks_nothing, blocks_nothing};
 
 use crate::asking::is_empty;
 use crate::bench::Stated;

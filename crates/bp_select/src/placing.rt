@@ -4,9 +4,10 @@ ghost use Rattle.std.specs.List.{list_any};
 ghost use Rattle.bp_run.specs.Selecting.{requests, requested};
 ghost use Rattle.bp_thread.specs.Views.{plain_statement};
 ghost use Rattle.bp_select.specs.Benches.{placed};
-ghost use Rattle.bp_select.specs.Lists.{AreCounted, gap, is_gap, live_in};
-ghost use Rattle.bp_select.specs.Lives.{live_of};
-ghost use Rattle.bp_select.specs.Places.{AreInOrder, place_in, is_number};
+ghost use Rattle.bp_select.specs.inner.Lists.{HasGaps, gap, is_gap, live_in};
+ghost use Rattle.bp_select.specs.inner.Lives.{live_of};
+ghost use Rattle.bp_select.specs.Places.{AreInOrder};
+ghost use Rattle.bp_select.specs.inner.Numbers.{place_in, is_number};
 
 use crate::bench::{Stated, requests};
 use bp_log::Memory;
@@ -31,7 +32,7 @@ impl Model for StatedList {
     ghost use Rattle.std.specs.Coded.{codes};
     ghost use Rattle.js_data.specs.Codes.{event_code};
     ghost use Rattle.js_value.specs.Codes.{set_code};
-    ghost use Rattle.bp_select.specs.Lists.{AreCounted, PlainList, live_in};
+    ghost use Rattle.bp_select.specs.inner.Lists.{HasGaps, PlainList, live_in};
 
     ghost Value = { PlainList };
 
@@ -39,7 +40,7 @@ impl Model for StatedList {
 
     ghost view = { λ l. record { live = live_in l.items.items; gone = l.gone } };
 
-    ghost invariant = { λ l. AreCounted l.items.items l.gone };
+    ghost invariant = { λ l. HasGaps l.items.items l.gone };
 }
 
 /// How many of them have a smaller number, by a search by halves.
@@ -70,13 +71,13 @@ fn gap_at(items: &[Stated], at: usize) -> usize
 
 /// Puts a statement at its place, for that of the same number if there is one.
 fn put(items: &mut Vec<Stated>, gone: &mut usize, at: usize, stated: Stated) -> Result<(), Memory>
-    requires counted { AreCounted items.old.items gone.old }
+    requires counted { HasGaps items.old.items gone.old }
     requires at { at ≡ place_in stated.number (map live_of items.old.items) }
     requires here { stated.here ≡ true }
     ensures put { let o = Some (plain_statement stated.statement) in
         OnOk result (live_in items.new.items ≡ placed stated.number o (live_in items.old.items)) }
     ensures failed { OnErr result (live_in items.new.items ≡ live_in items.old.items) }
-    ensures counted { AreCounted items.new.items gone.new }
+    ensures counted { HasGaps items.new.items gone.new }
 {
     if is_at(items.as_slice(), at, stated.number) {
         *gone -= gap_at(items.as_slice(), at);
@@ -89,10 +90,10 @@ fn put(items: &mut Vec<Stated>, gone: &mut usize, at: usize, stated: Stated) -> 
 
 /// The one of this number is live no more, if it is there.
 fn take_away(items: &mut Vec<Stated>, gone: &mut usize, at: usize, number: u32)
-    requires counted { AreCounted items.old.items gone.old }
+    requires counted { HasGaps items.old.items gone.old }
     requires at { at ≡ place_in number (map live_of items.old.items) }
     ensures taken { live_in items.new.items ≡ placed number None (live_in items.old.items) }
-    ensures counted { AreCounted items.new.items gone.new }
+    ensures counted { HasGaps items.new.items gone.new }
 {
     if is_at(items.as_slice(), at, number) {
         *gone += 1 - gap_at(items.as_slice(), at);
@@ -113,7 +114,7 @@ fn is_gap(items: &[Stated], at: usize) -> bool
 /// Those that are not live, which are this many, give up their places. Where it is one alone, and at
 /// this place, no other is looked at.
 fn clear(items: &mut Vec<Stated>, gone: usize, left: usize)
-    requires { AreCounted items.old.items gone }
+    requires { HasGaps items.old.items gone }
     ensures { items.new.items ≡ filter (λ t. t.here) items.old.items }
 {
     if gone == 1 && is_gap(items.as_slice(), left) {

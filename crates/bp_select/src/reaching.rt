@@ -5,12 +5,12 @@ ghost use Rattle.js_frames.specs.Places.{plain_ground};
 ghost use Rattle.bp_meaning.specs.Membership.{member};
 ghost use Rattle.bp_sets.specs.Asked.{IsAbout};
 ghost use Rattle.bp_run.specs.Choosing.{touched, reach};
-ghost use Rattle.bp_select.specs.Lives.{live_of};
+ghost use Rattle.bp_select.specs.inner.Lives.{live_of};
 ghost use Rattle.bp_roll.specs.Rolls.{is_in};
 ghost use Rattle.bp_select.specs.declared.bench.Stated.{Stated};
-ghost use Rattle.bp_select.specs.Answers.{AddsTouch, AnswersAs, AnswersReach, move_of, interrupt_of};
-ghost use Rattle.bp_select.specs.Heeding.{Stays};
-ghost use Rattle.bp_select.specs.Touches.{touch_as};
+ghost use Rattle.bp_select.specs.inner.Touches.{AddsTouch, touch_as};
+ghost use Rattle.bp_select.specs.Answers.{AnswersAs, AnswersReach, move_of, interrupt_of};
+ghost use Rattle.bp_select.specs.inner.Heeding.{Stays};
 
 use crate::asking::ask_as;
 use crate::bench::{Stated, requests};

@@ -7,18 +7,20 @@ ghost use Rattle.bp_meaning.specs.Membership.{member};
 ghost use Rattle.js_value.specs.Value.{PlainSet};
 ghost use Rattle.bp_run.specs.Selecting.{Live, without_fault, first_unblocked, selectable};
 ghost use Rattle.bp_run.specs.Choosing.{choice, drawn_of, chosen};
-ghost use Rattle.bp_select.specs.Lives.{lent, live_of};
-ghost use Rattle.bp_select.specs.Heeding.{Each, IsNoted, WhereWhole};
+ghost use Rattle.bp_select.specs.inner.Lives.{lent, live_of};
+ghost use Rattle.bp_select.specs.Tallies.{Each, Tallied};
+ghost use Rattle.bp_select.specs.inner.Counted.{plain_tally};
+ghost use Rattle.bp_select.specs.inner.Heeding.{IsNoted, WhereWhole};
 ghost use Rattle.js_meaning.specs.State.{Ground as Base};
-ghost use Rattle.bp_select.specs.Answers.{AnswersAs, IsFrom, IsWithin, chosen_of, enabled_of};
-ghost use Rattle.bp_select.specs.Tallies.{Tallied, plain_tally};
+ghost use Rattle.bp_select.specs.Answers.{AnswersAs, IsWithin, chosen_of, enabled_of};
+ghost use Rattle.bp_select.specs.inner.Eligible.{IsFrom, IsOf, eligible_of};
 ghost use Rattle.bp_select.specs.Blocks.{AreOf};
-ghost use Rattle.bp_select.specs.Candidates.{events_in, tops_of};
-ghost use Rattle.bp_select.specs.Free.{free_of, IsOf};
+ghost use Rattle.bp_select.specs.inner.Candidates.{events_in, tops_of};
 ghost use Rattle.bp_known.specs.Known.{AreKnown, sets_in};
-ghost use Rattle.bp_select.specs.Parts.{IsPart, asks_nothing, blocks_nothing};
+ghost use Rattle.bp_select.specs.inner.Settled.{AreSettled};
+ghost use Rattle.bp_select.specs.inner.Parts.{IsPart, asks_nothing, blocks_nothing};
 ghost use Rattle.bp_select.specs.Places.{AreInOrder};
-ghost use Rattle.bp_select.specs.Tops.{with_live};
+ghost use Rattle.bp_select.specs.inner.Tops.{with_live};
 
 use crate::asking::{first_unblocked, unblocked};
 use crate::bench::Stated;
@@ -36,7 +38,7 @@ use std::alloc::Global;
 
 /// What can be selected.
 #[derive(Drop)]
-pub(crate) enum Free<'a> {
+pub(crate) enum Eligible<'a> {
     /// These candidates.
     Inner(Vec<Candidate<'a>>),
     /// The event at this place of the queue.
@@ -56,21 +58,21 @@ fn copies(alloc: Global, candidates: &[Candidate<'_>]) -> Result<Vec<Event>, Mem
     Ok(events)
 }
 
-impl<'a> Free<'a> {
+impl<'a> Eligible<'a> {
     /// As a bench answers it.
     pub(crate) fn into_enabled(self, alloc: Global) -> Result<Enabled, Memory>
-        ensures { IfOk result (λ x. enabled_of x ≡ free_of self.entry) }
+        ensures { IfOk result (λ x. enabled_of x ≡ eligible_of self.entry) }
     {
         match self {
-            Free::Inner(candidates) => {
+            Eligible::Inner(candidates) => {
                 let inner = copies(alloc, candidates.as_slice())?;
                 Ok(Enabled { inner, outer: None })
             }
-            Free::Outer(place) => Ok(Enabled {
+            Eligible::Outer(place) => Ok(Enabled {
                 inner: Vec::new(alloc),
                 outer: Some(place),
             }),
-            Free::Nothing => Ok(Enabled {
+            Eligible::Nothing => Ok(Enabled {
                 inner: Vec::new(alloc),
                 outer: None,
             }),
@@ -85,17 +87,17 @@ fn queued<'a>(
     budget: u64,
     blocking: &[&Stated],
     queue: &[Event],
-) -> Result<Free<'a>, SelectFault>
+) -> Result<Eligible<'a>, SelectFault>
     requires { length queue.now < 2 ^ 32 }
-    ensures free { AnswersAs free_of
+    ensures eligible { AnswersAs eligible_of
         (without_fault (λ place. record { inner = []; outer = place })
         (first_unblocked (member (plain_ground ground.now) budget) (map lent blocking.now) 0
         queue.now)) result }
     ensures tops { (ts : List (Live PlainSet)) → IfOk result (λ f. IsOf ts f) }
 {
     match first_unblocked(alloc, ground, budget, blocking, queue)? {
-        Some(place) => Ok(Free::Outer(place)),
-        None => Ok(Free::Nothing),
+        Some(place) => Ok(Eligible::Outer(place)),
+        None => Ok(Eligible::Nothing),
     }
 }
 
@@ -107,12 +109,12 @@ fn asked<'a>(
     blocking: &[&Stated],
     candidates: Vec<Candidate<'a>>,
     queue: &[Event],
-) -> Result<Free<'a>, SelectFault>
+) -> Result<Eligible<'a>, SelectFault>
     requires { length queue.now < 2 ^ 32 }
-    ensures free { (ts : List (Live PlainSet)) → tops_of candidates.entry.items ≡ with_live [] ts →
+    ensures eligible { (ts : List (Live PlainSet)) → tops_of candidates.entry.items ≡ with_live [] ts →
         IsPart blocks_nothing (map lent blocking.now) ts →
         let has = member (plain_ground ground.now) budget in
-        AnswersAs free_of (selectable has ts queue.now) result }
+        AnswersAs eligible_of (selectable has ts queue.now) result }
     ensures tops { (ts : List (Live PlainSet)) → tops_of candidates.entry.items ≡ with_live [] ts →
         IfOk result (λ f. IsOf ts f) }
 {
@@ -121,7 +123,7 @@ fn asked<'a>(
     if count == 0 {
         return queued(alloc, ground, budget, blocking, queue);
     }
-    Ok(Free::Inner(inner))
+    Ok(Eligible::Inner(inner))
 }
 
 /// What can be selected of the queue, where it is known of events whether they are blocked.
@@ -132,13 +134,13 @@ fn queued_told<'a>(
     blocking: &[&Stated],
     blocks: &mut Blocks,
     queue: &[Event],
-) -> Result<Free<'a>, SelectFault>
+) -> Result<Eligible<'a>, SelectFault>
     requires few { length queue.now < 2 ^ 32 }
     requires order { AreInOrder (map lent blocking.now) }
     requires sets { AreOf (map lent blocking.now) (sets_in blocks.old.sets) }
     requires known { AreKnown (plain_ground ground.now) budget (sets_in blocks.old.sets)
         blocks.old.told }
-    ensures free { AnswersAs free_of
+    ensures eligible { AnswersAs eligible_of
         (without_fault (λ place. record { inner = []; outer = place })
         (first_unblocked (member (plain_ground ground.now) budget) (map lent blocking.now) 0
         queue.now)) result }
@@ -150,11 +152,11 @@ fn queued_told<'a>(
     match blocks.first_unblocked(alloc, ground, budget, blocking, queue)? {
         Some(place) => {
             blocks.note_waiting(place as usize);
-            Ok(Free::Outer(place))
+            Ok(Eligible::Outer(place))
         }
         None => {
             blocks.note_waiting(queue.len());
-            Ok(Free::Nothing)
+            Ok(Eligible::Nothing)
         }
     }
 }
@@ -168,16 +170,16 @@ fn told<'a>(
     blocks: &mut Blocks,
     candidates: Vec<Candidate<'a>>,
     queue: &[Event],
-) -> Result<Free<'a>, SelectFault>
+) -> Result<Eligible<'a>, SelectFault>
     requires few { length queue.now < 2 ^ 32 }
     requires order { AreInOrder (map lent blocking.now) }
     requires sets { AreOf (map lent blocking.now) (sets_in blocks.old.sets) }
     requires known { AreKnown (plain_ground ground.now) budget (sets_in blocks.old.sets)
         blocks.old.told }
-    ensures free { (ts : List (Live PlainSet)) → tops_of candidates.entry.items ≡ with_live [] ts →
+    ensures eligible { (ts : List (Live PlainSet)) → tops_of candidates.entry.items ≡ with_live [] ts →
         IsPart blocks_nothing (map lent blocking.now) ts →
         let has = member (plain_ground ground.now) budget in
-        AnswersAs free_of (selectable has ts queue.now) result }
+        AnswersAs eligible_of (selectable has ts queue.now) result }
     ensures tops { (ts : List (Live PlainSet)) → tops_of candidates.entry.items ≡ with_live [] ts →
         IfOk result (λ f. IsOf ts f) }
     ensures sets { blocks.new.sets ≡ blocks.old.sets }
@@ -189,7 +191,7 @@ fn told<'a>(
     if count == 0 {
         return queued_told(alloc, ground, budget, blocking, blocks, queue);
     }
-    Ok(Free::Inner(inner))
+    Ok(Eligible::Inner(inner))
 }
 
 /// The candidates that nobody blocks, if that is known of each and there are some.
@@ -197,13 +199,13 @@ fn known<'a>(
     alloc: Global,
     blocks: &Blocks,
     candidates: &[Candidate<'a>],
-) -> Result<Option<Free<'a>>, Memory>
-    ensures free { (base : Base) (budget : ℕ) → let sets = sets_in blocks.now.sets in
+) -> Result<Option<Eligible<'a>>, Memory>
+    ensures eligible { (base : Base) (budget : ℕ) → let sets = sets_in blocks.now.sets in
         AreKnown base budget sets blocks.now.told →
         (ts : List (Live PlainSet)) → AreInOrder ts → AreOf ts sets →
         tops_of candidates.now ≡ with_live [] ts → (queue : List PlainEvent) →
         IfOk result (λ o. IfSome o (λ f.
-        selectable (member base budget) ts queue ≡ Ok (free_of f))) }
+        selectable (member base budget) ts queue ≡ Ok (eligible_of f))) }
     ensures tops { (ts : List (Live PlainSet)) → tops_of candidates.now ≡ with_live [] ts →
         IfOk result (λ o. IfSome o (λ f. IsOf ts f)) }
 {
@@ -214,7 +216,7 @@ fn known<'a>(
     if count == 0 {
         return Ok(None);
     }
-    Ok(Some(Free::Inner(inner)))
+    Ok(Some(Eligible::Inner(inner)))
 }
 
 /// What can be selected: candidates that nobody blocks, or else of the queue. Those that block
@@ -228,21 +230,17 @@ pub(crate) fn selectable<'a>(
     asking: &[&'a Stated],
     blocks: &mut Blocks,
     queue: &[Event],
-) -> Result<Free<'a>, SelectFault>
+) -> Result<Eligible<'a>, SelectFault>
     requires few { length queue.now < 2 ^ 32 }
-    requires order { AreInOrder (map live_of live.now) }
-    requires settled { heeds.now.whole ≡ true →
+    requires settled { AreSettled (plain_ground ground.now) budget (map live_of live.now) blocks.old }
+    requires noted { heeds.now.whole ≡ true →
         Each (λ t. IsNoted heeds.now.roll t) (map live_of live.now) }
     requires asking { IsPart asks_nothing (map lent asking.now) (map live_of live.now) }
-    requires sets { AreOf (map live_of live.now) (sets_in blocks.old.sets) }
-    requires known { AreKnown (plain_ground ground.now) budget (sets_in blocks.old.sets)
-        blocks.old.told }
-    ensures free { let has = member (plain_ground ground.now) budget in
-        AnswersAs free_of (selectable has (map live_of live.now) queue.now) result }
+    ensures eligible { let has = member (plain_ground ground.now) budget in
+        AnswersAs eligible_of (selectable has (map live_of live.now) queue.now) result }
     ensures tops { IfOk result (λ f. IsOf (map lent asking.now) f) }
     ensures sets { blocks.new.sets ≡ blocks.old.sets }
-    ensures known { AreKnown (plain_ground ground.now) budget (sets_in blocks.old.sets)
-        blocks.new.told }
+    ensures settled { AreSettled (plain_ground ground.now) budget (map live_of live.now) blocks.new }
 {
     let candidates = candidates(alloc, asking)?;
     if blocks.are_cheap() {
@@ -252,8 +250,8 @@ pub(crate) fn selectable<'a>(
     }
     blocks.begin_question(candidates.len());
     let requested = candidates.as_slice();
-    if let Some(free) = known(alloc, blocks, requested)? {
-        return Ok(free);
+    if let Some(found) = known(alloc, blocks, requested)? {
+        return Ok(found);
     }
     let blocking = heeds.blocking(alloc, live)?;
     let blocking = blocking.as_slice();
@@ -290,27 +288,27 @@ pub(crate) fn chosen<'a>(
     alloc: Global,
     strategy: Strategy,
     asking: &[&'a Stated],
-    free: Free<'a>,
+    found: Eligible<'a>,
     draw: &mut Draw,
 ) -> Result<Choice, Memory>
     requires words { draw.old.drawn + 1 < 2 ^ 64 }
-    requires tops { IsOf (map lent asking.now) free }
+    requires tops { IsOf (map lent asking.now) found }
     ensures chosen { IfOk result (λ c. (queue : List PlainEvent) → chosen_of queue draw.new.drawn c
         ≡ chosen (draw_word draw.old.seed) strategy (map lent asking.now) queue draw.old.drawn
-        (free_of free.entry).inner (free_of free.entry).outer) }
+        (eligible_of found.entry).inner (eligible_of found.entry).outer) }
     ensures seed { draw.new.seed ≡ draw.old.seed }
     ensures drawn { (draw.old.drawn ≤ draw.new.drawn) × (draw.new.drawn ≤ draw.old.drawn + 1) }
-    ensures place { IfOk result (IsFrom (free_of free.entry).outer) }
+    ensures place { IfOk result (IsFrom (eligible_of found.entry).outer) }
     ensures nothing { result ≡ Ok Choice.Nothing → draw.new ≡ draw.old }
     ensures failed { OnErr result (draw.new ≡ draw.old) }
 {
-    match free {
-        Free::Inner(inner) => {
+    match found {
+        Eligible::Inner(inner) => {
             let remaining = remaining(alloc, strategy, asking, inner)?;
             drawn(draw, remaining.as_slice())
         }
-        Free::Outer(place) => Ok(Choice::External(place)),
-        Free::Nothing => Ok(Choice::Nothing),
+        Eligible::Outer(place) => Ok(Choice::External(place)),
+        Eligible::Nothing => Ok(Choice::Nothing),
     }
 }
 
@@ -325,24 +323,20 @@ pub(crate) fn enabled(
     queue: &[Event],
 ) -> Result<Enabled, SelectFault>
     requires few { length queue.now < 2 ^ 32 }
-    requires order { AreInOrder (map live_of live.now) }
+    requires settled { AreSettled (plain_ground ground.now) budget (map live_of live.now) blocks.old }
     requires noted { WhereWhole heeds.old.whole (map live_of live.now) heeds.old.roll
         heeds.old.changed.items }
-    requires sets { AreOf (map live_of live.now) (sets_in blocks.old.sets) }
-    requires known { AreKnown (plain_ground ground.now) budget (sets_in blocks.old.sets)
-        blocks.old.told }
     ensures enabled { let has = member (plain_ground ground.now) budget in
         AnswersAs enabled_of (selectable has (map live_of live.now) queue.now) result }
     ensures noted { WhereWhole heeds.new.whole (map live_of live.now) heeds.new.roll
         heeds.new.changed.items }
     ensures sets { blocks.new.sets ≡ blocks.old.sets }
-    ensures known { AreKnown (plain_ground ground.now) budget (sets_in blocks.old.sets)
-        blocks.new.told }
+    ensures settled { AreSettled (plain_ground ground.now) budget (map live_of live.now) blocks.new }
 {
     let asking = heeds.asking(alloc, live)?;
     let asking = asking.as_slice();
-    let free = selectable(alloc, ground, budget, live, heeds, asking, blocks, queue)?;
-    Ok(free.into_enabled(alloc)?)
+    let found = selectable(alloc, ground, budget, live, heeds, asking, blocks, queue)?;
+    Ok(found.into_enabled(alloc)?)
 }
 
 /// Which event comes next, where each candidate is looked at.
@@ -359,12 +353,9 @@ fn choose_of_all(
 ) -> Result<Choice, SelectFault>
     requires few { length queue.now < 2 ^ 32 }
     requires words { draw.old.drawn + 1 < 2 ^ 64 }
-    requires order { AreInOrder (map live_of live.now) }
+    requires settled { AreSettled (plain_ground ground.now) budget (map live_of live.now) blocks.old }
     requires noted { WhereWhole heeds.old.whole (map live_of live.now) heeds.old.roll
         heeds.old.changed.items }
-    requires sets { AreOf (map live_of live.now) (sets_in blocks.old.sets) }
-    requires known { AreKnown (plain_ground ground.now) budget (sets_in blocks.old.sets)
-        blocks.old.told }
     ensures chosen { AnswersAs (chosen_of queue.now draw.new.drawn)
         (choice (member (plain_ground ground.now) budget) (draw_word draw.old.seed) strategy
         (map live_of live.now) queue.now draw.old.drawn) result }
@@ -376,13 +367,12 @@ fn choose_of_all(
     ensures noted { WhereWhole heeds.new.whole (map live_of live.now) heeds.new.roll
         heeds.new.changed.items }
     ensures sets { blocks.new.sets ≡ blocks.old.sets }
-    ensures known { AreKnown (plain_ground ground.now) budget (sets_in blocks.old.sets)
-        blocks.new.told }
+    ensures settled { AreSettled (plain_ground ground.now) budget (map live_of live.now) blocks.new }
 {
     let asking = heeds.asking(alloc, live)?;
     let asking = asking.as_slice();
-    let free = selectable(alloc, ground, budget, live, heeds, asking, blocks, queue)?;
-    Ok(chosen(alloc, strategy, asking, free, draw)?)
+    let found = selectable(alloc, ground, budget, live, heeds, asking, blocks, queue)?;
+    Ok(chosen(alloc, strategy, asking, found, draw)?)
 }
 
 /// Which event comes next, found by counts where that serves.
@@ -400,12 +390,9 @@ pub(crate) fn choose(
 ) -> Result<Choice, SelectFault>
     requires few { length queue.now < 2 ^ 32 }
     requires words { draw.old.drawn + 1 < 2 ^ 64 }
-    requires order { AreInOrder (map live_of live.now) }
+    requires settled { AreSettled (plain_ground ground.now) budget (map live_of live.now) blocks.old }
     requires noted { WhereWhole heeds.old.whole (map live_of live.now) heeds.old.roll
         heeds.old.changed.items }
-    requires sets { AreOf (map live_of live.now) (sets_in blocks.old.sets) }
-    requires known { AreKnown (plain_ground ground.now) budget (sets_in blocks.old.sets)
-        blocks.old.told }
     requires tallied { Tallied (plain_ground ground.now) budget (sets_in blocks.old.sets)
         (map live_of live.now) (plain_tally tally.old) }
     ensures chosen { AnswersAs (chosen_of queue.now draw.new.drawn)
@@ -419,8 +406,7 @@ pub(crate) fn choose(
     ensures noted { WhereWhole heeds.new.whole (map live_of live.now) heeds.new.roll
         heeds.new.changed.items }
     ensures sets { blocks.new.sets ≡ blocks.old.sets }
-    ensures known { AreKnown (plain_ground ground.now) budget (sets_in blocks.old.sets)
-        blocks.new.told }
+    ensures settled { AreSettled (plain_ground ground.now) budget (map live_of live.now) blocks.new }
     ensures tallied { Tallied (plain_ground ground.now) budget (sets_in blocks.old.sets)
         (map live_of live.now) (plain_tally tally.new) }
 {

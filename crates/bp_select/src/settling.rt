@@ -1,11 +1,13 @@
 //! The block sets that are noted become those of the live b-threads.
 ghost use Rattle.std.specs.Prelude.{◌≡◌, ℕ, List, false, map, nat_eq, option_map, OnOk};
 ghost use Rattle.js_frames.specs.Places.{plain_ground};
-ghost use Rattle.bp_select.specs.Blocks.{AreOf, IsNoted, block_at, own_set};
+ghost use Rattle.bp_select.specs.Blocks.{AreOf, block_at, own_set};
+ghost use Rattle.bp_select.specs.inner.BlockSets.{AreOfUnchanged};
 ghost use Rattle.bp_known.specs.Known.{AreKnown, sets_in};
-ghost use Rattle.bp_select.specs.Lives.{live_of};
+ghost use Rattle.bp_select.specs.inner.Lives.{live_of};
 ghost use Rattle.bp_select.specs.Places.{AreInOrder};
-ghost use Rattle.bp_select.specs.Tallies.{Tallied, plain_tally};
+ghost use Rattle.bp_select.specs.Tallies.{Tallied};
+ghost use Rattle.bp_select.specs.inner.Counted.{plain_tally};
 ghost use Rattle.bp_run.specs.Selecting.{Live};
 ghost use Rattle.js_value.specs.Value.{PlainSet};
 
@@ -89,10 +91,10 @@ pub(crate) fn settle(
     changed: &mut Vec<u32>,
 ) -> Result<(), Memory>
     requires order { AreInOrder (map live_of live.now) }
-    requires noted { IsNoted (map live_of live.now) (sets_in blocks.old.sets) changed.old.items }
+    requires noted { AreOfUnchanged (map live_of live.now) (sets_in blocks.old.sets) changed.old.items }
     requires known { AreKnown (plain_ground ground.now) budget (sets_in blocks.old.sets)
         blocks.old.told }
-    ensures noted { IsNoted (map live_of live.now) (sets_in blocks.new.sets) changed.new.items }
+    ensures noted { AreOfUnchanged (map live_of live.now) (sets_in blocks.new.sets) changed.new.items }
     ensures tallied { (ts : List (Live PlainSet)) →
         Tallied (plain_ground ground.now) budget (sets_in blocks.old.sets) ts (plain_tally tally.old)
         → Tallied (plain_ground ground.now) budget (sets_in blocks.new.sets) ts

@@ -13,13 +13,13 @@ ghost use Rattle.bp_known.specs.Known.{AreKnown, Sets, sets_in};
 ghost use Rattle.bp_roll.specs.Rolls.{is_in};
 ghost use Rattle.bp_select.specs.declared.answers.Choice.TheVariants as Choice;
 ghost use Rattle.bp_select.specs.declared.bench.Stated.{Stated};
-ghost use Rattle.bp_select.specs.Blocks.{AreOf};
-ghost use Rattle.bp_select.specs.Candidates.{events_in};
-ghost use Rattle.bp_select.specs.Counting.{count_at};
-ghost use Rattle.bp_select.specs.Heeding.{Each, IsNoted, WhereWhole};
-ghost use Rattle.bp_select.specs.Lives.{live_of};
+ghost use Rattle.bp_select.specs.inner.Candidates.{events_in};
+ghost use Rattle.bp_select.specs.Tallies.{count_at, Each, AreFreeOf, AreTallied, Tallied, no_tally};
+ghost use Rattle.bp_select.specs.inner.Counted.{plain_tally, IsAlone, IsCounted, all_free, chosen_as};
+ghost use Rattle.bp_select.specs.inner.Heeding.{IsNoted, WhereWhole};
+ghost use Rattle.bp_select.specs.inner.Lives.{live_of};
+ghost use Rattle.bp_select.specs.inner.Settled.{AreReady, AreSettled};
 ghost use Rattle.bp_select.specs.Places.{AreInOrder};
-ghost use Rattle.bp_select.specs.Tallies.{AreFreeOf, AreTallied, IsAlone, IsCounted, Tallied, all_free, chosen_as, no_tally, plain_tally};
 
 use crate::bench::{Stated, requests};
 use crate::block_sets::Blocks;
@@ -113,7 +113,7 @@ fn is_own(
     Ok(!is_requested_among(live, places.as_slice(), number, event))
 }
 
-/// Whether nobody else requests an event of the b-thread's.
+/// Whether nobody else requests an event that the b-thread requests.
 fn is_alone(alloc: Global, live: &[Stated], roll: &Roll, stated: &Stated) -> Result<bool, Memory>
     requires order { AreInOrder (map live_of live.now) }
     requires noted { Each (λ t. IsNoted roll.now t) (map live_of live.now) }
@@ -154,14 +154,11 @@ fn learn(
     blocks: &mut Blocks,
     stated: &Stated,
 ) -> Result<(), Memory>
-    requires order { AreInOrder (map live_of live.now) }
-    requires noted { Each (λ t. IsNoted roll.now t) (map live_of live.now) }
-    requires sets { AreOf (map live_of live.now) (sets_in blocks.old.sets) }
-    requires known { AreKnown (plain_ground ground.now) budget (sets_in blocks.old.sets)
-        blocks.old.told }
+    requires ready { AreReady (plain_ground ground.now) budget (map live_of live.now) roll.now
+        blocks.old }
     ensures sets { blocks.new.sets ≡ blocks.old.sets }
-    ensures known { AreKnown (plain_ground ground.now) budget (sets_in blocks.old.sets)
-        blocks.new.told }
+    ensures ready { AreReady (plain_ground ground.now) budget (map live_of live.now) roll.now
+        blocks.new }
 {
     let requested = candidates_of(alloc, stated)?;
     let blocking = blocking_at(alloc, live, roll)?;
@@ -181,14 +178,11 @@ fn free_of<'a>(
     blocks: &mut Blocks,
     stated: &'a Stated,
 ) -> Result<Option<Vec<Candidate<'a>>>, Memory>
-    requires order { AreInOrder (map live_of live.now) }
-    requires noted { Each (λ t. IsNoted roll.now t) (map live_of live.now) }
-    requires sets { AreOf (map live_of live.now) (sets_in blocks.old.sets) }
-    requires known { AreKnown (plain_ground ground.now) budget (sets_in blocks.old.sets)
-        blocks.old.told }
+    requires ready { AreReady (plain_ground ground.now) budget (map live_of live.now) roll.now
+        blocks.old }
     ensures sets { blocks.new.sets ≡ blocks.old.sets }
-    ensures known { AreKnown (plain_ground ground.now) budget (sets_in blocks.old.sets)
-        blocks.new.told }
+    ensures ready { AreReady (plain_ground ground.now) budget (map live_of live.now) roll.now
+        blocks.new }
     ensures free { IfOk result (λ o. IfSome o (λ l.
         AreFreeOf (plain_ground ground.now) budget (sets_in blocks.old.sets) (live_of stated.now)
         (events_in l.items))) }
@@ -202,7 +196,7 @@ fn free_of<'a>(
 }
 
 /// How many free events the b-thread of this number requests, if that can be known and nobody else
-/// requests one of them.
+/// requests an event that it requests, free or blocked.
 fn count_of(
     alloc: Global,
     ground: &Ground,
@@ -212,14 +206,11 @@ fn count_of(
     blocks: &mut Blocks,
     number: u32,
 ) -> Result<Option<usize>, Memory>
-    requires order { AreInOrder (map live_of live.now) }
-    requires noted { Each (λ t. IsNoted roll.now t) (map live_of live.now) }
-    requires sets { AreOf (map live_of live.now) (sets_in blocks.old.sets) }
-    requires known { AreKnown (plain_ground ground.now) budget (sets_in blocks.old.sets)
-        blocks.old.told }
+    requires ready { AreReady (plain_ground ground.now) budget (map live_of live.now) roll.now
+        blocks.old }
     ensures sets { blocks.new.sets ≡ blocks.old.sets }
-    ensures known { AreKnown (plain_ground ground.now) budget (sets_in blocks.old.sets)
-        blocks.new.told }
+    ensures ready { AreReady (plain_ground ground.now) budget (map live_of live.now) roll.now
+        blocks.new }
     ensures counted { IfOk result (λ o. IfSome o (λ count.
         IsCounted (plain_ground ground.now) budget (sets_in blocks.old.sets) (map live_of live.now)
         number count)) }
@@ -250,14 +241,11 @@ fn settle_one(
     counts: &mut Counts,
     number: u32,
 ) -> Result<bool, Memory>
-    requires order { AreInOrder (map live_of live.now) }
-    requires noted { Each (λ t. IsNoted roll.now t) (map live_of live.now) }
-    requires sets { AreOf (map live_of live.now) (sets_in blocks.old.sets) }
-    requires known { AreKnown (plain_ground ground.now) budget (sets_in blocks.old.sets)
-        blocks.old.told }
+    requires ready { AreReady (plain_ground ground.now) budget (map live_of live.now) roll.now
+        blocks.old }
     ensures sets { blocks.new.sets ≡ blocks.old.sets }
-    ensures known { AreKnown (plain_ground ground.now) budget (sets_in blocks.old.sets)
-        blocks.new.told }
+    ensures ready { AreReady (plain_ground ground.now) budget (map live_of live.now) roll.now
+        blocks.new }
     ensures counted { IfOk result (λ b. b ≡ true →
         IsCounted (plain_ground ground.now) budget (sets_in blocks.old.sets) (map live_of live.now)
         number (count_at counts.new number)) }
@@ -281,16 +269,13 @@ fn settle_all(
     counts: &mut Counts,
     changed: &[u32],
 ) -> Result<bool, Memory>
-    requires order { AreInOrder (map live_of live.now) }
-    requires noted { Each (λ t. IsNoted roll.now t) (map live_of live.now) }
-    requires sets { AreOf (map live_of live.now) (sets_in blocks.old.sets) }
-    requires known { AreKnown (plain_ground ground.now) budget (sets_in blocks.old.sets)
-        blocks.old.told }
+    requires ready { AreReady (plain_ground ground.now) budget (map live_of live.now) roll.now
+        blocks.old }
     requires tallied { AreTallied (plain_ground ground.now) budget (sets_in blocks.old.sets)
         (map live_of live.now) changed.now counts.old }
     ensures sets { blocks.new.sets ≡ blocks.old.sets }
-    ensures known { AreKnown (plain_ground ground.now) budget (sets_in blocks.old.sets)
-        blocks.new.told }
+    ensures ready { AreReady (plain_ground ground.now) budget (map live_of live.now) roll.now
+        blocks.new }
     ensures tallied { AreTallied (plain_ground ground.now) budget (sets_in blocks.old.sets)
         (map live_of live.now) changed.now counts.new }
     ensures settled { IfOk result (λ b. b ≡ true →
@@ -337,14 +322,11 @@ fn event_of(
     number: u32,
     place: usize,
 ) -> Result<Option<Event>, Memory>
-    requires order { AreInOrder (map live_of live.now) }
-    requires noted { Each (λ t. IsNoted roll.now t) (map live_of live.now) }
-    requires sets { AreOf (map live_of live.now) (sets_in blocks.old.sets) }
-    requires known { AreKnown (plain_ground ground.now) budget (sets_in blocks.old.sets)
-        blocks.old.told }
+    requires ready { AreReady (plain_ground ground.now) budget (map live_of live.now) roll.now
+        blocks.old }
     ensures sets { blocks.new.sets ≡ blocks.old.sets }
-    ensures known { AreKnown (plain_ground ground.now) budget (sets_in blocks.old.sets)
-        blocks.new.told }
+    ensures ready { AreReady (plain_ground ground.now) budget (map live_of live.now) roll.now
+        blocks.new }
     ensures event { (counts : List ℕ) → let ts = map live_of live.now in
         AreTallied (plain_ground ground.now) budget (sets_in blocks.old.sets) ts [] counts →
         place < count_at counts number → IfOk result (λ o. IfSome o (λ e.
@@ -372,16 +354,13 @@ fn event_at(
     counts: &Counts,
     place: usize,
 ) -> Result<Option<Event>, Memory>
-    requires order { AreInOrder (map live_of live.now) }
-    requires noted { Each (λ t. IsNoted roll.now t) (map live_of live.now) }
-    requires sets { AreOf (map live_of live.now) (sets_in blocks.old.sets) }
-    requires known { AreKnown (plain_ground ground.now) budget (sets_in blocks.old.sets)
-        blocks.old.told }
+    requires ready { AreReady (plain_ground ground.now) budget (map live_of live.now) roll.now
+        blocks.old }
     requires tallied { AreTallied (plain_ground ground.now) budget (sets_in blocks.old.sets)
         (map live_of live.now) [] counts.now }
     ensures sets { blocks.new.sets ≡ blocks.old.sets }
-    ensures known { AreKnown (plain_ground ground.now) budget (sets_in blocks.old.sets)
-        blocks.new.told }
+    ensures ready { AreReady (plain_ground ground.now) budget (map live_of live.now) roll.now
+        blocks.new }
     ensures event { IfOk result (λ o. IfSome o (λ e.
         slice_get (all_free (member (plain_ground ground.now) budget) (map live_of live.now)) place
         ≡ Some e)) }
@@ -441,16 +420,13 @@ fn pick_of(
     counts: &Counts,
     draw: &Draw,
 ) -> Result<Option<Picked>, Memory>
-    requires order { AreInOrder (map live_of live.now) }
-    requires noted { Each (λ t. IsNoted roll.now t) (map live_of live.now) }
-    requires sets { AreOf (map live_of live.now) (sets_in blocks.old.sets) }
-    requires known { AreKnown (plain_ground ground.now) budget (sets_in blocks.old.sets)
-        blocks.old.told }
+    requires ready { AreReady (plain_ground ground.now) budget (map live_of live.now) roll.now
+        blocks.old }
     requires tallied { AreTallied (plain_ground ground.now) budget (sets_in blocks.old.sets)
         (map live_of live.now) [] counts.now }
     ensures sets { blocks.new.sets ≡ blocks.old.sets }
-    ensures known { AreKnown (plain_ground ground.now) budget (sets_in blocks.old.sets)
-        blocks.new.told }
+    ensures ready { AreReady (plain_ground ground.now) budget (map live_of live.now) roll.now
+        blocks.new }
     ensures picked { (queue : List PlainEvent) → IfOk result (λ o. IfSome o (λ p.
         choice (member (plain_ground ground.now) budget) (draw_word draw.now.seed) Simple
         (map live_of live.now) queue draw.now.drawn
@@ -565,16 +541,13 @@ impl Tally {
         blocks: &mut Blocks,
         draw: &Draw,
     ) -> Result<Option<Picked>, Memory>
-        requires order { AreInOrder (map live_of live.now) }
-        requires noted { Each (λ t. IsNoted roll.now t) (map live_of live.now) }
-        requires sets { AreOf (map live_of live.now) (sets_in blocks.old.sets) }
-        requires known { AreKnown (plain_ground ground.now) budget (sets_in blocks.old.sets)
-            blocks.old.told }
+        requires ready { AreReady (plain_ground ground.now) budget (map live_of live.now) roll.now
+            blocks.old }
         requires tallied { Tallied (plain_ground ground.now) budget (sets_in blocks.old.sets)
             (map live_of live.now) (plain_tally self.old) }
         ensures sets { blocks.new.sets ≡ blocks.old.sets }
-        ensures known { AreKnown (plain_ground ground.now) budget (sets_in blocks.old.sets)
-            blocks.new.told }
+        ensures ready { AreReady (plain_ground ground.now) budget (map live_of live.now) roll.now
+            blocks.new }
         ensures tallied { Tallied (plain_ground ground.now) budget (sets_in blocks.old.sets)
             (map live_of live.now) (plain_tally self.new) }
         ensures picked { (queue : List PlainEvent) → IfOk result (λ o. IfSome o (λ p.
@@ -621,19 +594,15 @@ pub(crate) fn quick(
     tally: &mut Tally,
     draw: &Draw,
 ) -> Result<Option<Picked>, Memory>
-    requires order { AreInOrder (map live_of live.now) }
+    requires settled { AreSettled (plain_ground ground.now) budget (map live_of live.now) blocks.old }
     requires noted { WhereWhole heeds.old.whole (map live_of live.now) heeds.old.roll
         heeds.old.changed.items }
-    requires sets { AreOf (map live_of live.now) (sets_in blocks.old.sets) }
-    requires known { AreKnown (plain_ground ground.now) budget (sets_in blocks.old.sets)
-        blocks.old.told }
     requires tallied { Tallied (plain_ground ground.now) budget (sets_in blocks.old.sets)
         (map live_of live.now) (plain_tally tally.old) }
     ensures noted { WhereWhole heeds.new.whole (map live_of live.now) heeds.new.roll
         heeds.new.changed.items }
     ensures sets { blocks.new.sets ≡ blocks.old.sets }
-    ensures known { AreKnown (plain_ground ground.now) budget (sets_in blocks.old.sets)
-        blocks.new.told }
+    ensures settled { AreSettled (plain_ground ground.now) budget (map live_of live.now) blocks.new }
     ensures tallied { Tallied (plain_ground ground.now) budget (sets_in blocks.old.sets)
         (map live_of live.now) (plain_tally tally.new) }
     ensures picked { (queue : List PlainEvent) → IfOk result (λ o. IfSome o (λ p.

@@ -2,8 +2,8 @@ use Rattle.std.proofs.Common.{map, not}
 use Rattle.std.proofs.lemmas.Result.{err_from_is_err_and}
 use Rattle.js_frames.specs.Places.{plain_ground}
 use Rattle.bp_meaning.specs.Membership.{member}
-use Rattle.bp_select.specs.Lives.{lent}
-use Rattle.bp_select.specs.Candidates.{event_of}
+use Rattle.bp_select.specs.inner.Lives.{lent}
+use Rattle.bp_select.specs.inner.Candidates.{event_of}
 use Rattle.bp_select.specs.declared.candidate.Candidate.{Candidate}
 use Rattle.bp_select.proofs.Questions.{unblocked_step, unblocked_last, unblocked_fault}
 use Rattle.bp_select.proofs.TopLemmas.{tops_step}

@@ -1,9 +1,9 @@
 use Rattle.std.proofs.Common.{◌∙◌, [], List, map, ap}
 use Rattle.std.proofs.lemmas.Result.{IfOk-weaker}
 use Rattle.bp_select.specs.declared.candidate.Candidate.{Candidate}
-use Rattle.bp_select.specs.Lives.{lent}
-use Rattle.bp_select.specs.Tops.{with_live}
-use Rattle.bp_select.specs.Candidates.{tops_in, tops_of}
+use Rattle.bp_select.specs.inner.Lives.{lent}
+use Rattle.bp_select.specs.inner.Tops.{with_live}
+use Rattle.bp_select.specs.inner.Candidates.{tops_in, tops_of}
 use Rattle.bp_select.proofs.Entered.{listed_tops, live_step, live_last}
 use Rattle.bp_select.proofs.candidates.candidates.Goals as goal
 

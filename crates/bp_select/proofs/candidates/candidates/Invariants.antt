@@ -1,7 +1,7 @@
 use Rattle.std.proofs.Common.{◌≡◌, [], map, drop}
-use Rattle.bp_select.specs.Lives.{lent}
-use Rattle.bp_select.specs.Tops.{with_live}
-use Rattle.bp_select.specs.Candidates.{tops_in}
+use Rattle.bp_select.specs.inner.Lives.{lent}
+use Rattle.bp_select.specs.inner.Tops.{with_live}
+use Rattle.bp_select.specs.inner.Candidates.{tops_in}
 use Rattle.bp_select.proofs.candidates.candidates.Given as goal
 
 abbrev pub invariant-loop-stated : goal.invariant-loop-stated

@@ -2,8 +2,8 @@ use Rattle.std.proofs.Common.{◌∙◌, List, ℤ, ap, map}
 use Rattle.std.proofs.lemmas.Result.{IfOk-weaker}
 use Rattle.bp_select.specs.declared.candidate.Candidate.{Candidate}
 use Rattle.bp_select.specs.declared.key.Key.{Key}
-use Rattle.bp_select.specs.Candidates.{tops_of}
-use Rattle.bp_select.specs.Tops.{with_requests}
+use Rattle.bp_select.specs.inner.Candidates.{tops_of}
+use Rattle.bp_select.specs.inner.Tops.{with_requests}
 use Rattle.bp_select.proofs.Entered.{listed_tops}
 use Rattle.bp_select.proofs.candidates.candidates_of.Goals as goal
 

@@ -1,7 +1,7 @@
 use Rattle.std.proofs.Common.{◌≡◌, ◌<◌, ◌≤◌, ◌∙◌, ℤ, List, length, get_or, subst, ap, w64, SFits, to_z-of_z, rules}
 use Rattle.js_data.specs.Event.{PlainEvent}
-use Rattle.bp_select.specs.Tops.{with_request, with_requests}
-use Rattle.bp_select.specs.Candidates.{tops_in}
+use Rattle.bp_select.specs.inner.Tops.{with_request, with_requests}
+use Rattle.bp_select.specs.inner.Candidates.{tops_in}
 use Rattle.bp_select.proofs.Entered.{requests_step, requests_last}
 use Rattle.bp_select.proofs.candidates.request_all.Goals as goal
 

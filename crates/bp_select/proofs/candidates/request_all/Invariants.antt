@@ -1,7 +1,7 @@
 use Rattle.std.proofs.Common.{◌≡◌, drop}
-use Rattle.bp_select.specs.Lives.{live_of}
-use Rattle.bp_select.specs.Tops.{with_requests}
-use Rattle.bp_select.specs.Candidates.{tops_in}
+use Rattle.bp_select.specs.inner.Lives.{live_of}
+use Rattle.bp_select.specs.inner.Tops.{with_requests}
+use Rattle.bp_select.specs.inner.Candidates.{tops_in}
 use Rattle.bp_select.proofs.candidates.request_all.Given as goal
 
 abbrev pub invariant-loop-event : goal.invariant-loop-event

@@ -1,6 +1,6 @@
 use Rattle.std.proofs.Common.{◌≡◌, ◌<◌, ◌∙◌, List, length, get_or, find, subst, sym}
 use Rattle.js_data.specs.Event.{PlainEvent}
-use Rattle.bp_select.specs.Candidates.{is_among}
+use Rattle.bp_select.specs.inner.Candidates.{is_among}
 use Rattle.bp_select.proofs.Firsts.{found_here, found_later}
 use Rattle.bp_select.proofs.choosing.first_among.Goals as goal
 

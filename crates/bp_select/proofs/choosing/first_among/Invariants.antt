@@ -1,6 +1,6 @@
 use Rattle.std.proofs.Common.{◌≡◌, drop, find}
-use Rattle.bp_select.specs.Lives.{live_of}
-use Rattle.bp_select.specs.Candidates.{is_among}
+use Rattle.bp_select.specs.inner.Lives.{live_of}
+use Rattle.bp_select.specs.inner.Candidates.{is_among}
 use Rattle.bp_select.proofs.choosing.first_among.Given as goal
 
 abbrev pub invariant-loop-request : goal.invariant-loop-request

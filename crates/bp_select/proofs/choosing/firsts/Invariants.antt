@@ -1,8 +1,8 @@
 use Rattle.std.proofs.Common.{◌≡◌, ◌||◌, map}
 use Rattle.std.specs.List.{list_any}
 use Rattle.js_data.specs.Event.{PlainEvent}
-use Rattle.bp_select.specs.Lives.{lent}
-use Rattle.bp_select.specs.Candidates.{is_among, is_first}
+use Rattle.bp_select.specs.inner.Lives.{lent}
+use Rattle.bp_select.specs.inner.Candidates.{is_among, is_first}
 use Rattle.bp_select.proofs.Firsts.{any_later}
 use Rattle.bp_select.proofs.choosing.firsts.Given as goal
 

@@ -1,8 +1,6 @@
 use Rattle.std.proofs.Common.{◌∙◌, ℤ, Option, filter, ap, sym, Some, w64, SFits, to_z-of_z, rules}
-use Rattle.js_data.specs.Event.{PlainEvent}
-use Rattle.bp_run.specs.Choosing.{at_most, priority_of}
-use Rattle.bp_select.specs.Priorities.{top_of}
-use Rattle.bp_select.specs.Candidates.{event_of, events_in}
+use Rattle.bp_run.specs.Choosing.{at_most, is_greatest, priority_of}
+use Rattle.bp_select.specs.inner.Candidates.{event_of, events_in}
 use Rattle.bp_select.specs.declared.candidate.Candidate.{Candidate}
 use Rattle.bp_select.proofs.Firsts.{kept_step, kept_last}
 use Rattle.bp_select.proofs.TopLemmas.{tops_get}
@@ -13,16 +11,15 @@ loop-candidate-preserved c = λ ts h.
     let x = c.candidate-item.result in
     let i = c.loop-candidate.candidate-index in
     let events = events_in c.args.inner.now in
-    let p = λ (e : PlainEvent). at_most (top_of ts events) (priority_of ts e) in
     let fits : SFits w64 x.top = search rules in
-    kept_step event_of p c.args.inner.now i x c.loop-candidate.kept.items c.keep_if.new.kept.items (filter p events) c.at_most-reaches.result c.loop-candidate-test.true c.candidate-item.is
+    kept_step event_of (is_greatest ts events) c.args.inner.now i x c.loop-candidate.kept.items c.keep_if.new.kept.items (filter (is_greatest ts events) events) c.at_most-reaches.result c.loop-candidate-test.true c.candidate-item.is
     (c.at_most-reaches.ensures
     ∙ ap (λ (z : ℤ). at_most c.top_of-top.result (Some z)) (to_z-of_z fits)
-    ∙ ap (λ (o : Option ℤ). at_most o (Some x.top)) (c.top_of-top.ensures ts h)
-    ∙ ap (λ (o : Option ℤ). at_most (top_of ts events) o) (sym (tops_get event_of (λ (y : Candidate). y.top) ts c.args.inner.now i x c.loop-candidate-test.true c.candidate-item.is h)))
+    ∙ ap (λ (o : Option ℤ). at_most c.top_of-top.result o) (sym (tops_get event_of (λ (y : Candidate). y.top) ts c.args.inner.now i x c.loop-candidate-test.true c.candidate-item.is h))
+    ∙ c.top_of-top.ensures ts h (priority_of ts (event_of x)))
     c.in_ok-keep_if.ensures (c.loop-candidate.invariant ts h)
 
 pub returns : goal.returns
 returns c = λ ts h.
-    kept_last event_of (λ (e : PlainEvent). at_most (top_of ts (events_in c.args.inner.now)) (priority_of ts e)) c.args.inner.now c.loop-candidate.candidate-index c.loop-candidate.kept.items
+    kept_last event_of (is_greatest ts (events_in c.args.inner.now)) c.args.inner.now c.loop-candidate.candidate-index c.loop-candidate.kept.items
     c.loop-candidate-test.false (c.loop-candidate.invariant ts h)

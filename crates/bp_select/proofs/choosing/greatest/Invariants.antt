@@ -1,15 +1,13 @@
 use Rattle.std.proofs.Common.{◌≡◌, ◌++◌, List, drop, filter}
-use Rattle.js_data.specs.Event.{PlainEvent}
 use Rattle.js_value.specs.Value.{PlainSet}
 use Rattle.bp_run.specs.Selecting.{Live}
-use Rattle.bp_run.specs.Choosing.{at_most, priority_of}
-use Rattle.bp_select.specs.Priorities.{top_of}
-use Rattle.bp_select.specs.Tops.{HaveTops}
-use Rattle.bp_select.specs.Candidates.{events_in, tops_of}
+use Rattle.bp_run.specs.Choosing.{is_greatest}
+use Rattle.bp_select.specs.inner.Tops.{HaveTops}
+use Rattle.bp_select.specs.inner.Candidates.{events_in, tops_of}
 use Rattle.bp_select.proofs.choosing.greatest.Given as goal
 
 abbrev pub invariant-loop-candidate : goal.invariant-loop-candidate
 invariant-loop-candidate l =
     (ts : List (Live PlainSet)) → HaveTops ts (tops_of l.inner) →
-    (let p = λ (e : PlainEvent). at_most (top_of ts (events_in l.inner)) (priority_of ts e) in
+    (let p = is_greatest ts (events_in l.inner) in
     events_in l.kept.items ++ filter p (events_in (drop l.candidate-index l.inner)) ≡ filter p (events_in l.inner))

@@ -1,7 +1,7 @@
 use Rattle.std.proofs.Common.{◌≡◌, ◌||◌, drop}
 use Rattle.std.specs.List.{list_any}
 use Rattle.js_data.specs.Event.{PlainEvent, same_event}
-use Rattle.bp_select.specs.Candidates.{events_in, is_among}
+use Rattle.bp_select.specs.inner.Candidates.{events_in, is_among}
 use Rattle.bp_select.proofs.choosing.keys.Given as goal
 
 abbrev pub invariant-loop-candidate : goal.invariant-loop-candidate

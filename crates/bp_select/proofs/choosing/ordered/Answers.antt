@@ -2,8 +2,8 @@ use Rattle.std.proofs.Common.{◌∙◌, filter, map}
 use Rattle.std.specs.List.{list_any}
 use Rattle.js_data.specs.Event.{PlainEvent}
 use Rattle.bp_run.specs.Choosing.{is_first_of}
-use Rattle.bp_select.specs.Lives.{lent}
-use Rattle.bp_select.specs.Candidates.{event_of, events_in, is_among}
+use Rattle.bp_select.specs.inner.Lives.{lent}
+use Rattle.bp_select.specs.inner.Candidates.{event_of, events_in, is_among}
 use Rattle.bp_select.proofs.Firsts.{firsts_of, kept_step, kept_last}
 use Rattle.bp_select.proofs.choosing.ordered.Goals as goal
 

@@ -2,8 +2,8 @@ use Rattle.std.proofs.Common.{◌≡◌, ◌++◌, map, drop, filter}
 use Rattle.std.specs.List.{list_any}
 use Rattle.js_data.specs.Event.{PlainEvent}
 use Rattle.bp_run.specs.Choosing.{is_first_of}
-use Rattle.bp_select.specs.Lives.{lent}
-use Rattle.bp_select.specs.Candidates.{events_in}
+use Rattle.bp_select.specs.inner.Lives.{lent}
+use Rattle.bp_select.specs.inner.Candidates.{events_in}
 use Rattle.bp_select.proofs.choosing.ordered.Given as goal
 
 abbrev pub invariant-loop-candidate : goal.invariant-loop-candidate

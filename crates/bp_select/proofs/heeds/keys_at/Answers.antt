@@ -2,8 +2,8 @@ use Rattle.std.proofs.Common.{◌≡◌, ◌∙◌, map, sym, subst}
 use Rattle.std.proofs.lemmas.Result.{IfOk-weaker}
 use Rattle.bp_roll.specs.Rolls.{is_in}
 use Rattle.bp_select.specs.declared.bench.Stated.{Stated}
-use Rattle.bp_select.specs.Heeding.{HeedsAt}
-use Rattle.bp_select.specs.Lives.{live_of}
+use Rattle.bp_select.specs.inner.Heeding.{HeedsAt}
+use Rattle.bp_select.specs.inner.Lives.{live_of}
 use Rattle.bp_select.proofs.HeedLemmas.{absent_each, each_map, found_each}
 use Rattle.bp_select.proofs.Leaving.{at_within}
 use Rattle.bp_select.proofs.heeds.keys_at.Goals as goal

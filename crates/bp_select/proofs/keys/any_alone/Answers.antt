@@ -1,6 +1,6 @@
 use Rattle.std.proofs.Common.{◌∙◌, ℕ, List, ap}
 use Rattle.bp_roll.specs.Rolls.{is_in}
-use Rattle.bp_select.specs.Heeding.{any_key}
+use Rattle.bp_select.specs.inner.Heeding.{any_key}
 use Rattle.bp_select.proofs.HeedLemmas.{in_push, touched_any}
 use Rattle.bp_select.proofs.keys.any_alone.Goals as goal
 

@@ -1,6 +1,6 @@
 use Rattle.std.proofs.Common.{map, take}
-use Rattle.bp_select.specs.Lives.{live_of, lent}
-use Rattle.bp_select.specs.Parts.{IsPart, asks_nothing}
+use Rattle.bp_select.specs.inner.Lives.{live_of, lent}
+use Rattle.bp_select.specs.inner.Parts.{IsPart, asks_nothing}
 use Rattle.bp_select.proofs.picking.all_asking.Given as goal
 
 abbrev pub invariant-loop-stated : goal.invariant-loop-stated

@@ -3,8 +3,8 @@ use Rattle.std.specs.Borrow.{Bor}
 use Rattle.std.specs.declared.alloc.Global.{Global}
 use Rattle.std.proofs.lemmas.List.{map_push}
 use Rattle.bp_select.specs.declared.bench.Stated.{Stated}
-use Rattle.bp_select.specs.Lives.{live_of, lent}
-use Rattle.bp_select.specs.Parts.{IsPart}
+use Rattle.bp_select.specs.inner.Lives.{live_of, lent}
+use Rattle.bp_select.specs.inner.Parts.{IsPart}
 use Rattle.bp_select.proofs.Finding.{ArePassed, part_last, part_next, passed_step}
 use Rattle.bp_select.proofs.picking.part_at.Goals as goal
 use Rattle.bp_select.proofs.picking.part_at.Goals.{then-is_between+in_ok-push, else-is_between}

@@ -1,7 +1,7 @@
 use Rattle.std.proofs.Common.{◌∙◌, List, ap, arith, sym, rules, slice_get}
 use Rattle.std.proofs.lemmas.Fn.{filter_same}
 use Rattle.bp_select.specs.declared.bench.Stated.{Stated}
-use Rattle.bp_select.specs.Lists.{is_gap}
+use Rattle.bp_select.specs.inner.Lists.{is_gap}
 use Rattle.bp_select.proofs.Leaving.{gap_within, one_gap}
 use Rattle.bp_select.proofs.placing.clear.Goals as goal
 

@@ -1,8 +1,8 @@
 use Rattle.std.proofs.Common.{◌∙◌, ◌≤◌, List, length, map, get_or, ap, sym, arith, slice_get}
 use Rattle.bp_select.specs.declared.bench.Stated.{Stated}
-use Rattle.bp_select.specs.Lists.{gap, live_in}
-use Rattle.bp_select.specs.Lives.{live_of}
-use Rattle.bp_select.specs.Places.{place_in, is_number}
+use Rattle.bp_select.specs.inner.Lists.{gap, live_in}
+use Rattle.bp_select.specs.inner.Lives.{live_of}
+use Rattle.bp_select.specs.inner.Numbers.{place_in, is_number}
 use Rattle.bp_select.proofs.Leaving.{at_within, count_gap, put_over, put_over_counted, put_more, put_more_counted}
 use Rattle.bp_select.proofs.Putting.{place_within}
 use Rattle.bp_select.proofs.placing.put.Goals as goal

@@ -1,8 +1,8 @@
 use Rattle.std.proofs.Common.{◌∙◌, List, map, get_or, ap, sym, refl, arith, slice_get}
 use Rattle.bp_select.specs.declared.bench.Stated.{Stated}
-use Rattle.bp_select.specs.Lists.{gap}
-use Rattle.bp_select.specs.Lives.{live_of}
-use Rattle.bp_select.specs.Places.{is_number}
+use Rattle.bp_select.specs.inner.Lists.{gap}
+use Rattle.bp_select.specs.inner.Lives.{live_of}
+use Rattle.bp_select.specs.inner.Numbers.{is_number}
 use Rattle.bp_select.proofs.Leaving.{at_within, gap_most_at, gone_most, none_live, taken, taken_counted}
 use Rattle.bp_select.proofs.placing.take_away.Goals as goal
 

@@ -2,7 +2,7 @@ use Rattle.std.proofs.Common.{rules}
 use Rattle.std.proofs.lemmas.Result.{err_from_is_err_and}
 use Rattle.js_frames.specs.Places.{plain_ground}
 use Rattle.bp_meaning.specs.Membership.{member}
-use Rattle.bp_select.specs.Touches.{touch_as}
+use Rattle.bp_select.specs.inner.Touches.{touch_as}
 use Rattle.bp_select.proofs.TouchLemmas.{reaches_step, reaches_last, reaches_fault}
 use Rattle.bp_select.proofs.reaching.reach.Goals as goal
 

@@ -6,9 +6,9 @@ use Rattle.bp_draw.specs.Words.{draw_word}
 use Rattle.bp_meaning.specs.Membership.{member}
 use Rattle.bp_run.specs.Choosing.{Choice}
 use Rattle.bp_select.specs.declared.bench.Stated.{Stated}
-use Rattle.bp_select.specs.Lives.{live_of, lent}
-use Rattle.bp_select.specs.Free.{free_of}
-use Rattle.bp_select.specs.Parts.{IsPart, asks_nothing}
+use Rattle.bp_select.specs.inner.Lives.{live_of, lent}
+use Rattle.bp_select.specs.inner.Eligible.{eligible_of}
+use Rattle.bp_select.specs.inner.Parts.{IsPart, asks_nothing}
 use Rattle.bp_select.proofs.PartLemmas.{chosen_part}
 use Rattle.bp_select.proofs.Selects.{choice_of, choice_fault, from_within, selectable_within}
 use Rattle.bp_select.proofs.selecting.choose_of_all.Goals as goal
@@ -17,26 +17,26 @@ pub selectable-requires-clause-asking : goal.selectable-requires-clause-asking
 selectable-requires-clause-asking c =
     subst (λ (xs : List (Bor Stated)). IsPart asks_nothing (map lent xs) (map live_of c.args.live.now)) (sym c.as_slice-asking.ensures.value) c.in_ok-asking.ensures.asking
 
-pub returns-in_err-free-clause-chosen : goal.returns-in_err-free-clause-chosen
-returns-in_err-free-clause-chosen c =
-    let p = err_from_is_err_and c.from_residual-in_err-free.result c.from_residual-in_err-free.ensures.1 in
+pub returns-in_err-found-clause-chosen : goal.returns-in_err-found-clause-chosen
+returns-in_err-found-clause-chosen c =
+    let p = err_from_is_err_and c.from_residual-in_err-found.result c.from_residual-in_err-found.ensures.1 in
     rw (p.1, p.2)
-    (choice_fault (member (plain_ground c.args.ground.now) c.args.budget) (draw_word c.args.draw.now.seed) c.args.strategy (map live_of c.args.live.now) c.args.queue.now c.args.draw.now.drawn _ c.in_err-free.ensures.free)
+    (choice_fault (member (plain_ground c.args.ground.now) c.args.budget) (draw_word c.args.draw.now.seed) c.args.strategy (map live_of c.args.live.now) c.args.queue.now c.args.draw.now.drawn _ c.in_err-found.ensures.eligible)
 
 pub returns-clause-chosen : goal.returns-clause-chosen
 returns-clause-chosen c =
     let word = draw_word c.args.draw.now.seed in
-    let free = free_of c.in_ok-free.free in
+    let found = eligible_of c.in_ok-found.found in
     let d = c.args.draw.now.drawn in
     let ts = map live_of c.args.live.now in
     let queue = c.args.queue.now in
     let asks = subst (λ (xs : List (Bor Stated)). IsPart asks_nothing (map lent xs) ts) (sym c.as_slice-asking.ensures.value) c.in_ok-asking.ensures.asking in
-    choice_of (member (plain_ground c.args.ground.now) c.args.budget) word c.args.strategy ts queue d free c.in_ok-free.ensures.free
-    ∙ ap (λ (o : Option Choice). Ok o) (sym (c.in_ok-chosen.ensures.chosen queue ∙ chosen_part (map lent c.as_slice-asking.result.now) ts asks word c.args.strategy queue d free.inner free.outer))
+    choice_of (member (plain_ground c.args.ground.now) c.args.budget) word c.args.strategy ts queue d found c.in_ok-found.ensures.eligible
+    ∙ ap (λ (o : Option Choice). Ok o) (sym (c.in_ok-chosen.ensures.chosen queue ∙ chosen_part (map lent c.as_slice-asking.result.now) ts asks word c.args.strategy queue d found.inner found.outer))
 
 pub returns-clause-within : goal.returns-clause-within
 returns-clause-within c =
-    let free = free_of c.in_ok-free.free in
+    let found = eligible_of c.in_ok-found.found in
     let queue = c.args.queue.now in
-    from_within (length queue) free.outer _ c.in_ok-chosen.ensures.place
-    (λ i e. selectable_within (member (plain_ground c.args.ground.now) c.args.budget) (map live_of c.args.live.now) queue free i c.in_ok-free.ensures.free e)
+    from_within (length queue) found.outer _ c.in_ok-chosen.ensures.place
+    (λ i e. selectable_within (member (plain_ground c.args.ground.now) c.args.budget) (map live_of c.args.live.now) queue found i c.in_ok-found.ensures.eligible e)

@@ -1,6 +1,6 @@
 use Rattle.std.proofs.Common.{◌∙◌, ◌++◌, ◌∷◌, [], ap}
 use Rattle.js_data.specs.Event.{PlainEvent}
-use Rattle.bp_select.specs.Candidates.{event_of, events_in}
+use Rattle.bp_select.specs.inner.Candidates.{event_of, events_in}
 use Rattle.bp_select.proofs.Firsts.{copies_step, copies_last}
 use Rattle.bp_select.proofs.selecting.copies.Goals as goal
 

@@ -3,18 +3,18 @@ use Rattle.std.specs.Borrow.{Bor}
 use Rattle.std.proofs.lemmas.Result.{err_from_is_err_and}
 use Rattle.bp_run.specs.Selecting.{Enabled}
 use Rattle.bp_select.specs.declared.bench.Stated.{Stated}
-use Rattle.bp_select.specs.Lives.{live_of, lent}
-use Rattle.bp_select.specs.Parts.{IsPart, asks_nothing}
+use Rattle.bp_select.specs.inner.Lives.{live_of, lent}
+use Rattle.bp_select.specs.inner.Parts.{IsPart, asks_nothing}
 use Rattle.bp_select.proofs.selecting.enabled.Goals as goal
 
 pub selectable-requires-clause-asking : goal.selectable-requires-clause-asking
 selectable-requires-clause-asking c =
     subst (λ (xs : List (Bor Stated)). IsPart asks_nothing (map lent xs) (map live_of c.args.live.now)) (sym c.as_slice-asking.ensures.value) c.in_ok-asking.ensures.asking
 
-pub returns-in_err-free-clause-enabled : goal.returns-in_err-free-clause-enabled
-returns-in_err-free-clause-enabled c =
-    let p = err_from_is_err_and c.from_residual-in_err-free.result c.from_residual-in_err-free.ensures.1 in
-    rw (p.1, p.2) c.in_err-free.ensures.free
+pub returns-in_err-found-clause-enabled : goal.returns-in_err-found-clause-enabled
+returns-in_err-found-clause-enabled c =
+    let p = err_from_is_err_and c.from_residual-in_err-found.result c.from_residual-in_err-found.ensures.1 in
+    rw (p.1, p.2) c.in_err-found.ensures.eligible
 
 pub returns-clause-enabled : goal.returns-clause-enabled
-returns-clause-enabled c = c.in_ok-free.ensures.free ∙ ap (λ (x : Enabled). Ok x) (sym c.in_ok-into_enabled.ensures)
+returns-clause-enabled c = c.in_ok-found.ensures.eligible ∙ ap (λ (x : Enabled). Ok x) (sym c.in_ok-into_enabled.ensures)

@@ -4,14 +4,14 @@ use Rattle.std.specs.declared.alloc.Global.{Global}
 use Rattle.std.proofs.lemmas.List.{length-map}
 use Rattle.bp_meaning.specs.Membership.{member}
 use Rattle.bp_run.specs.Selecting.{unblocked}
-use Rattle.bp_select.specs.Candidates.{event_of, events_in, tops_of}
-use Rattle.bp_select.specs.Tops.{HaveTops}
+use Rattle.bp_select.specs.inner.Candidates.{event_of, events_in, tops_of}
+use Rattle.bp_select.specs.inner.Tops.{HaveTops}
 use Rattle.bp_select.specs.declared.candidate.Candidate.{Candidate}
 use Rattle.bp_select.proofs.Selects.{are_candidates, have_tops, select_inner}
 use Rattle.bp_select.proofs.selecting.known.Goals as goal
 
-pub returns-clause-free : goal.returns-clause-free
-returns-clause-free c = λ base budget k ts order of tops queue.
+pub returns-clause-eligible : goal.returns-clause-eligible
+returns-clause-eligible c = λ base budget k ts order of tops queue.
     select_inner (member base budget) ts queue (events_in c.args.candidates.now) (events_in c.in-Some.inner.items) (are_candidates event_of (λ (x : Candidate). x.top) c.args.candidates.now ts tops)
     (subst (λ (o : Option (Vec Candidate Global)). IfSome o (λ l. unblocked (member base budget) ts (events_in c.args.candidates.now) ≡ Ok (events_in l.items))) c.in-Some.is (c.in_ok-inner.ensures.free base budget k ts order of))
     (λ z. c.if-count-eq0.false (ap (λ (cs : List Candidate). length cs) c.as_slice-count.ensures.value ∙ sym (length-map c.in-Some.inner.items event_of) ∙ z))

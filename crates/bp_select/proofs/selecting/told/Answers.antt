@@ -3,32 +3,32 @@ use Rattle.std.proofs.lemmas.List.{length-map}
 use Rattle.std.proofs.lemmas.Result.{err_from_is_err_and}
 use Rattle.js_frames.specs.Places.{plain_ground}
 use Rattle.bp_run.specs.Selecting.{Asked, Enabled, candidates}
-use Rattle.bp_select.specs.Lives.{lent}
+use Rattle.bp_select.specs.inner.Lives.{lent}
 use Rattle.bp_select.specs.Answers.{AnswersAs}
-use Rattle.bp_select.specs.Tops.{HaveTops}
-use Rattle.bp_select.specs.Candidates.{event_of, events_in, tops_of}
-use Rattle.bp_select.specs.Free.{free_of}
+use Rattle.bp_select.specs.inner.Tops.{HaveTops}
+use Rattle.bp_select.specs.inner.Candidates.{event_of, events_in, tops_of}
+use Rattle.bp_select.specs.inner.Eligible.{eligible_of}
 use Rattle.bp_select.specs.declared.candidate.Candidate.{Candidate}
 use Rattle.bp_select.proofs.Selects.{are_candidates, have_tops, selectable_fault, selectable_queued, selectable_inner}
 use Rattle.bp_select.proofs.selecting.told.Goals as goal
 
-pub returns-in_err-inner-clause-free : goal.returns-in_err-inner-clause-free
-returns-in_err-inner-clause-free c = λ ts tops part.
+pub returns-in_err-inner-clause-eligible : goal.returns-in_err-inner-clause-eligible
+returns-in_err-inner-clause-eligible c = λ ts tops part.
     let p = err_from_is_err_and c.from_residual.result c.from_residual.ensures.1 in
     let es = events_in c.as_slice.result.now in
     let found : es ≡ candidates ts = ap (λ (cs : List Candidate). events_in cs) c.as_slice.ensures.value ∙ are_candidates event_of (λ (x : Candidate). x.top) c.args.candidates.items ts tops in
     rw (p.1, p.2) (selectable_fault (plain_ground c.args.ground.now) c.args.budget ts (map lent c.args.blocking.now) c.args.queue.now es found part _ c.in_err-inner.ensures.events)
 
-pub returns-then-count-eq0-clause-free : goal.returns-then-count-eq0-clause-free
-returns-then-count-eq0-clause-free c = λ ts tops part.
+pub returns-then-count-eq0-clause-eligible : goal.returns-then-count-eq0-clause-eligible
+returns-then-count-eq0-clause-eligible c = λ ts tops part.
     let es = events_in c.as_slice.result.now in
     let found : es ≡ candidates ts = ap (λ (cs : List Candidate). events_in cs) c.as_slice.ensures.value ∙ are_candidates event_of (λ (x : Candidate). x.top) c.args.candidates.items ts tops in
     let none = length-map c.in_ok-inner.inner.items event_of ∙ sym (ap (λ (cs : List Candidate). length cs) c.as_slice-count.ensures.value) ∙ c.if-count-eq0.true in
     let eq = selectable_queued (plain_ground c.args.ground.now) c.args.budget ts (map lent c.args.blocking.now) c.args.queue.now es found part (events_in c.in_ok-inner.inner.items) c.in_ok-inner.ensures.events none in
-    subst (λ (x : Asked Enabled). AnswersAs free_of x c.queued_told.result) (sym eq) c.queued_told.ensures.free
+    subst (λ (x : Asked Enabled). AnswersAs eligible_of x c.queued_told.result) (sym eq) c.queued_told.ensures.eligible
 
-pub returns-clause-free : goal.returns-clause-free
-returns-clause-free c = λ ts tops part.
+pub returns-clause-eligible : goal.returns-clause-eligible
+returns-clause-eligible c = λ ts tops part.
     let es = events_in c.as_slice.result.now in
     let found : es ≡ candidates ts = ap (λ (cs : List Candidate). events_in cs) c.as_slice.ensures.value ∙ are_candidates event_of (λ (x : Candidate). x.top) c.args.candidates.items ts tops in
     selectable_inner (plain_ground c.args.ground.now) c.args.budget ts (map lent c.args.blocking.now) c.args.queue.now es found part (events_in c.in_ok-inner.inner.items) c.in_ok-inner.ensures.events

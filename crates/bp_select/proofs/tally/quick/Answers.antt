@@ -6,8 +6,8 @@ use Rattle.bp_draw.specs.Words.{draw_word}
 use Rattle.bp_log.specs.declared.options.Strategy.{Strategy}
 use Rattle.bp_meaning.specs.Membership.{member}
 use Rattle.bp_run.specs.Choosing.{choice}
-use Rattle.bp_select.specs.Lives.{live_of}
-use Rattle.bp_select.specs.Tallies.{chosen_as}
+use Rattle.bp_select.specs.inner.Lives.{live_of}
+use Rattle.bp_select.specs.inner.Counted.{chosen_as}
 use Rattle.bp_select.proofs.tally.quick.Goals as goal
 
 pub returns-in-Simple-clause-picked : goal.returns-in-Simple-clause-picked
@@ -16,3 +16,9 @@ returns-in-Simple-clause-picked c =
     (λ (s : Strategy). (queue : List PlainEvent) →
     IfOk c.pick.result (λ o. IfSome o (λ p. choice (member (plain_ground c.args.ground.now) c.args.budget) (draw_word c.args.draw.now.seed) s (map live_of c.args.live.now) queue c.args.draw.now.drawn ≡ Ok (Some (chosen_as p.event p.draws c.args.draw.now.drawn)))))
     (sym c.in-Simple.is) c.pick.ensures.picked
+
+pub pick-requires-clause-ready : goal.pick-requires-clause-ready
+pick-requires-clause-ready c = record { settled = c.requires.settled; noted = c.in_ok-many.ensures.settled c.if-not-many.false }
+
+pub returns-in-Simple-clause-settled : goal.returns-in-Simple-clause-settled
+returns-in-Simple-clause-settled c = c.pick.ensures.ready.settled

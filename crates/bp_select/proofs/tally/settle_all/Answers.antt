@@ -1,20 +1,12 @@
-use Rattle.std.proofs.Common.{◌∙◌, List, ℕ, map, refl, slice_index, subst, sym}
+use Rattle.std.proofs.Common.{◌∙◌, List, ℕ, map, refl, slice_index, subst}
 use Rattle.js_value.specs.Value.{PlainSet}
 use Rattle.js_frames.specs.Places.{plain_ground}
-use Rattle.bp_known.specs.Known.{AreKnown, sets_in}
-use Rattle.bp_select.specs.Blocks.{AreOf}
-use Rattle.bp_select.specs.Lives.{live_of}
-use Rattle.bp_select.specs.Tallies.{IsCounted}
-use Rattle.bp_select.specs.Counting.{count_at}
+use Rattle.bp_known.specs.Known.{sets_in}
+use Rattle.bp_select.specs.inner.Lives.{live_of}
+use Rattle.bp_select.specs.inner.Counted.{IsCounted}
+use Rattle.bp_select.specs.Tallies.{count_at}
 use Rattle.bp_select.proofs.TallyLemmas.{tallied_all, tallied_fault, tallied_next, tallied_still}
 use Rattle.bp_select.proofs.tally.settle_all.Goals as goal
-
-pub settle_one-requires-clause-sets : goal.settle_one-requires-clause-sets
-settle_one-requires-clause-sets c = subst (λ (es : List (ℕ × PlainSet)). AreOf (map live_of c.args.live.now) (sets_in es)) (sym c.loop-number.invariant.sets) c.requires.sets
-
-pub settle_one-requires-clause-known : goal.settle_one-requires-clause-known
-settle_one-requires-clause-known c =
-    subst (λ (es : List (ℕ × PlainSet)). AreKnown (plain_ground c.args.ground.now) c.args.budget (sets_in es) c.loop-number.blocks.told) (sym c.loop-number.invariant.sets) c.loop-number.invariant.known
 
 pub loop-number-preserved : goal.loop-number-preserved
 loop-number-preserved c =
@@ -24,7 +16,7 @@ loop-number-preserved c =
     let n = slice_index c.args.changed.now c.loop-number.number-index in
     record {
       sets = c.settle_one.ensures.sets ∙ was.sets;
-      known = subst (λ (es : List (ℕ × PlainSet)). AreKnown base c.args.budget (sets_in es) c.settle_one.new.blocks.told) was.sets c.settle_one.ensures.known;
+      ready = c.settle_one.ensures.ready;
       tallied =
           tallied_next base c.args.budget (sets_in c.args.blocks.now.sets) ts c.args.changed.now c.loop-number.number-index (slice_index c.args.changed.now c.loop-number.number-index) c.loop-number-test.true refl c.loop-number.counts c.settle_one.new.counts c.settle_one.ensures.others
           (subst (λ (es : List (ℕ × PlainSet)). IsCounted base c.args.budget (sets_in es) ts n (count_at c.settle_one.new.counts n)) was.sets (c.in_ok-counted.ensures.counted c.if-not-counted.false)) was.tallied;
@@ -33,10 +25,6 @@ loop-number-preserved c =
 pub returns-in_err-counted-clause-sets : goal.returns-in_err-counted-clause-sets
 returns-in_err-counted-clause-sets c = c.settle_one.ensures.sets ∙ c.loop-number.invariant.sets
 
-pub returns-in_err-counted-clause-known : goal.returns-in_err-counted-clause-known
-returns-in_err-counted-clause-known c =
-    subst (λ (es : List (ℕ × PlainSet)). AreKnown (plain_ground c.args.ground.now) c.args.budget (sets_in es) c.settle_one.new.blocks.told) c.loop-number.invariant.sets c.settle_one.ensures.known
-
 pub returns-in_err-counted-clause-tallied : goal.returns-in_err-counted-clause-tallied
 returns-in_err-counted-clause-tallied c =
     tallied_fault (plain_ground c.args.ground.now) c.args.budget (sets_in c.args.blocks.now.sets) (map live_of c.args.live.now) c.args.changed.now c.loop-number.number-index (slice_index c.args.changed.now c.loop-number.number-index) c.loop-number-test.true refl c.loop-number.counts c.settle_one.new.counts
@@ -44,10 +32,6 @@ returns-in_err-counted-clause-tallied c =
 
 pub returns-then-not-counted-clause-sets : goal.returns-then-not-counted-clause-sets
 returns-then-not-counted-clause-sets c = c.settle_one.ensures.sets ∙ c.loop-number.invariant.sets
-
-pub returns-then-not-counted-clause-known : goal.returns-then-not-counted-clause-known
-returns-then-not-counted-clause-known c =
-    subst (λ (es : List (ℕ × PlainSet)). AreKnown (plain_ground c.args.ground.now) c.args.budget (sets_in es) c.settle_one.new.blocks.told) c.loop-number.invariant.sets c.settle_one.ensures.known
 
 pub returns-then-not-counted-clause-tallied : goal.returns-then-not-counted-clause-tallied
 returns-then-not-counted-clause-tallied c =

@@ -2,12 +2,13 @@ use Rattle.std.proofs.Common.{◌≡◌, ◌∙◌, ℕ, List, map, ap, sym, sub
 use Rattle.js_value.specs.Value.{PlainSet}
 use Rattle.js_frames.specs.Places.{plain_ground}
 use Rattle.bp_meaning.specs.Membership.{member}
-use Rattle.bp_known.specs.Known.{AreKnown, sets_in}
+use Rattle.bp_known.specs.Known.{sets_in}
 use Rattle.bp_run.specs.Selecting.{Live, selectable}
 use Rattle.bp_select.specs.Answers.{AnswersAs, enabled_of}
-use Rattle.bp_select.specs.Lives.{live_of}
+use Rattle.bp_select.specs.inner.Lives.{live_of}
 use Rattle.bp_select.specs.Benches.{Fits, PlainBench}
-use Rattle.bp_select.specs.Tallies.{Tallied, plain_tally}
+use Rattle.bp_select.specs.Tallies.{Tallied}
+use Rattle.bp_select.specs.inner.Counted.{plain_tally}
 use Rattle.bp_select.proofs.bench.Bench.enabled.Goals as goal
 
 pub settle-requires-clause-known : goal.settle-requires-clause-known
@@ -26,6 +27,9 @@ returns-in_err-settle-clause-fits c =
           (subst (λ (ts : List (Live PlainSet)). Tallied base c.args.budget (sets_in c.self.inside.blocks.sets) ts (plain_tally c.self.inside.tally)) (sym c.tidy.ensures.same) fits.tallied);
     }
 
+pub enabled-requires-clause-settled : goal.enabled-requires-clause-settled
+enabled-requires-clause-settled c = record { order = c.as_slice-live.ensures.order; sets = c.in_ok-settle.ensures.settled; known = c.settle.ensures.known }
+
 pub returns-clause-enabled : goal.returns-clause-enabled
 returns-clause-enabled c =
     let here : map live_of c.as_slice-live.result.now ≡ c.args.self.now.live = c.as_slice-live.ensures.live ∙ c.tidy.ensures.same ∙ ap (λ (b : PlainBench). b.live) c.self.view_is in
@@ -36,7 +40,7 @@ returns-clause-fits c =
     let base = plain_ground c.args.ground.now in
     let fits = subst (λ (b : PlainBench). Fits b base c.args.budget) (sym c.self.view_is) c.requires.fits in
     record {
-      known = subst (λ (es : List (ℕ × PlainSet)). AreKnown base c.args.budget (sets_in es) c.enabled.new.blocks.told) (sym c.enabled.ensures.sets) c.enabled.ensures.known;
+      known = c.enabled.ensures.settled.known;
       tallied =
           subst (λ (es : List (ℕ × PlainSet)). Tallied base c.args.budget (sets_in es) c.tidy.new.self.live (plain_tally c.settle.new.tally)) (sym c.enabled.ensures.sets)
           (c.settle.ensures.tallied c.tidy.new.self.live

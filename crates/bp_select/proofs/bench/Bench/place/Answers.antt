@@ -2,7 +2,7 @@ use Rattle.std.proofs.Common.{option_map, refl, subst, sym}
 use Rattle.bp_thread.specs.Views.{plain_statement}
 use Rattle.bp_known.specs.Known.{sets_in}
 use Rattle.bp_select.specs.Benches.{Fits, PlainBench}
-use Rattle.bp_select.specs.Tallies.{plain_tally}
+use Rattle.bp_select.specs.inner.Counted.{plain_tally}
 use Rattle.bp_select.proofs.HeedLemmas.{kept_more, kept_placed}
 use Rattle.bp_select.proofs.TallyLemmas.{tallied_when}
 use Rattle.bp_select.proofs.bench.Bench.place.Goals as goal

@@ -1,7 +1,7 @@
 use Rattle.std.proofs.Common.{List, ap, sym, subst}
 use Rattle.bp_known.specs.declared.known.Told.{Told}
 use Rattle.bp_known.specs.Known.{AreKnown}
-use Rattle.bp_select.specs.Blocks.{PlainBlocks}
+use Rattle.bp_select.specs.inner.BlockSets.{PlainBlocks}
 use Rattle.bp_select.proofs.block_sets.Blocks.begin_question.Goals as goal
 
 pub returns-clause-known : goal.returns-clause-known

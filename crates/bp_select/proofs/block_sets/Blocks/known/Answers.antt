@@ -1,5 +1,5 @@
 use Rattle.std.proofs.Common.{ap}
-use Rattle.bp_select.specs.Blocks.{PlainBlocks}
+use Rattle.bp_select.specs.inner.BlockSets.{PlainBlocks}
 use Rattle.bp_known.proofs.Knowing.{known_here}
 use Rattle.bp_select.proofs.block_sets.Blocks.known.Goals as goal
 

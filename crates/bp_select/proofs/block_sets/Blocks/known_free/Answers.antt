@@ -1,6 +1,6 @@
 use Rattle.std.proofs.Common.{not}
 use Rattle.bp_meaning.specs.Membership.{member}
-use Rattle.bp_select.specs.Candidates.{event_of}
+use Rattle.bp_select.specs.inner.Candidates.{event_of}
 use Rattle.bp_select.specs.declared.candidate.Candidate.{Candidate}
 use Rattle.bp_select.proofs.Questions.{unblocked_step}
 use Rattle.bp_select.proofs.TopLemmas.{tops_step}

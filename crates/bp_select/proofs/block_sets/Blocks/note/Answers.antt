@@ -1,7 +1,7 @@
 use Rattle.std.proofs.Common.{rules, ◌≡◌, ◌++◌, ◌∷◌, [], List, ap, sym, subst}
 use Rattle.js_data.specs.Event.{PlainEvent}
 use Rattle.bp_known.specs.declared.known.Told.{Told}
-use Rattle.bp_select.specs.Blocks.{PlainBlocks}
+use Rattle.bp_select.specs.inner.BlockSets.{PlainBlocks}
 use Rattle.bp_known.specs.Known.{AreKnown, IsKnown}
 use Rattle.bp_known.proofs.Knowing.{noted_here, told_more}
 use Rattle.bp_select.proofs.block_sets.Blocks.note.Goals as goal

@@ -1,7 +1,7 @@
 use Rattle.std.proofs.Common.{◌∙◌, List, Vec, Global, option_map, ap, sym, subst}
 use Rattle.js_frames.specs.Places.{plain_ground}
 use Rattle.bp_known.specs.Known.{AreKnown, restated, sets_in}
-use Rattle.bp_select.specs.Blocks.{PlainBlocks}
+use Rattle.bp_select.specs.inner.BlockSets.{PlainBlocks}
 use Rattle.bp_known.specs.declared.known.Told.{Told}
 use Rattle.bp_known.proofs.Knowing.{none_told, told_by}
 use Rattle.bp_select.proofs.block_sets.Blocks.restate.Goals as goal

@@ -1,5 +1,5 @@
 use Rattle.std.proofs.Common.{◌≡◌, ℕ, length}
-use Rattle.bp_select.specs.Counting.{count_at}
+use Rattle.bp_select.specs.Tallies.{count_at}
 use Rattle.bp_select.proofs.counts.Counts.make_room.Given as goal
 
 abbrev pub invariant-loop-place : goal.invariant-loop-place

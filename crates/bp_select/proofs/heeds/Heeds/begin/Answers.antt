@@ -1,5 +1,5 @@
 use Rattle.std.proofs.Common.{map}
-use Rattle.bp_select.specs.Lives.{live_of}
+use Rattle.bp_select.specs.inner.Lives.{live_of}
 use Rattle.bp_select.proofs.HeedLemmas.{all_changed}
 use Rattle.bp_select.proofs.heeds.Heeds.begin.Goals as goal
 

@@ -1,7 +1,7 @@
 use Rattle.std.proofs.Common.{◌∙◌, List, map, ap, sym, subst}
 use Rattle.bp_select.specs.declared.bench.Stated.{Stated}
-use Rattle.bp_select.specs.Lists.{PlainList}
-use Rattle.bp_select.specs.Lives.{live_of}
+use Rattle.bp_select.specs.inner.Lists.{PlainList}
+use Rattle.bp_select.specs.inner.Lives.{live_of}
 use Rattle.bp_select.specs.Places.{AreInOrder}
 use Rattle.bp_select.proofs.Leaving.{none_gone}
 use Rattle.bp_select.proofs.placing.StatedList.as_slice.Goals as goal

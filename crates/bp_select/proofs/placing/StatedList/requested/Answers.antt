@@ -2,8 +2,8 @@ use Rattle.std.proofs.Common.{◌∙◌, ◌&&◌, List, ap}
 use Rattle.std.specs.List.{list_any}
 use Rattle.bp_run.specs.Selecting.{requests, requested}
 use Rattle.bp_select.specs.declared.bench.Stated.{Stated}
-use Rattle.bp_select.specs.Lists.{PlainList}
-use Rattle.bp_select.specs.Lives.{live_of}
+use Rattle.bp_select.specs.inner.Lists.{PlainList}
+use Rattle.bp_select.specs.inner.Lives.{live_of}
 use Rattle.bp_select.proofs.Leaving.{requested_one}
 use Rattle.bp_select.proofs.placing.StatedList.requested.Goals as goal
 

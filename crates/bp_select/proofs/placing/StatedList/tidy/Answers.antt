@@ -1,5 +1,5 @@
 use Rattle.std.proofs.Common.{◌∙◌, ap}
-use Rattle.bp_select.specs.Lists.{PlainList}
+use Rattle.bp_select.specs.inner.Lists.{PlainList}
 use Rattle.bp_select.proofs.Leaving.{tidy_counted, tidy_same}
 use Rattle.bp_select.proofs.placing.StatedList.tidy.Goals as goal
 

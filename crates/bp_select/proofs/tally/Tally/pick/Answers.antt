@@ -1,10 +1,11 @@
 use Rattle.std.proofs.Common.{◌∙◌, [], ℕ, List, map, subst, sym}
 use Rattle.js_value.specs.Value.{PlainSet}
 use Rattle.js_frames.specs.Places.{plain_ground}
-use Rattle.bp_known.specs.Known.{AreKnown, sets_in}
-use Rattle.bp_select.specs.Blocks.{AreOf}
-use Rattle.bp_select.specs.Lives.{live_of}
-use Rattle.bp_select.specs.Tallies.{AreTallied, plain_tally}
+use Rattle.bp_known.specs.Known.{sets_in}
+use Rattle.bp_select.specs.inner.Lives.{live_of}
+use Rattle.bp_select.specs.Tallies.{AreTallied}
+use Rattle.bp_select.specs.inner.Counted.{plain_tally}
+use Rattle.bp_select.proofs.Readiness.{ready_after}
 use Rattle.bp_select.proofs.TallyLemmas.{tallied_rest}
 use Rattle.bp_select.proofs.tally.Tally.pick.Goals as goal
 
@@ -14,11 +15,11 @@ returns-in_err-begun-clause-tallied c = c.begin.ensures.tallied (plain_ground c.
 pub returns-then-not-begun-clause-tallied : goal.returns-then-not-begun-clause-tallied
 returns-then-not-begun-clause-tallied c = c.begin.ensures.tallied (plain_ground c.args.ground.now) c.args.budget (sets_in c.args.blocks.now.sets) c.requires.tallied
 
-pub settle_all-requires-clause-known : goal.settle_all-requires-clause-known
-settle_all-requires-clause-known c =
+pub settle_all-requires-clause-ready : goal.settle_all-requires-clause-ready
+settle_all-requires-clause-ready c =
     let base = plain_ground c.args.ground.now in
-    subst (λ (es : List (ℕ × PlainSet)). AreKnown base c.args.budget (sets_in es) c.begin_question.new.self.told) (sym c.begin_question.ensures.sets)
-    (c.begin_question.ensures.known base c.args.budget (sets_in c.args.blocks.now.sets) c.requires.known)
+    ready_after base c.args.budget (map live_of c.args.live.now) c.args.blocks.now c.begin_question.new.self c.begin_question.ensures.sets
+    (c.begin_question.ensures.known base c.args.budget (sets_in c.args.blocks.now.sets) c.requires.ready.settled.known) c.args.roll.now c.requires.ready
 
 pub settle_all-requires-clause-tallied : goal.settle_all-requires-clause-tallied
 settle_all-requires-clause-tallied c =
@@ -31,10 +32,6 @@ settle_all-requires-clause-tallied c =
 pub returns-in_err-all-clause-sets : goal.returns-in_err-all-clause-sets
 returns-in_err-all-clause-sets c = c.settle_all.ensures.sets ∙ c.begin_question.ensures.sets
 
-pub returns-in_err-all-clause-known : goal.returns-in_err-all-clause-known
-returns-in_err-all-clause-known c =
-    subst (λ (es : List (ℕ × PlainSet)). AreKnown (plain_ground c.args.ground.now) c.args.budget (sets_in es) c.settle_all.new.blocks.told) c.begin_question.ensures.sets c.settle_all.ensures.known
-
 pub returns-in_err-all-clause-tallied : goal.returns-in_err-all-clause-tallied
 returns-in_err-all-clause-tallied c = λ w.
     let base = plain_ground c.args.ground.now in
@@ -45,20 +42,8 @@ returns-in_err-all-clause-tallied c = λ w.
 pub returns-then-not-all-clause-sets : goal.returns-then-not-all-clause-sets
 returns-then-not-all-clause-sets c = c.settle_all.ensures.sets ∙ c.begin_question.ensures.sets
 
-pub returns-then-not-all-clause-known : goal.returns-then-not-all-clause-known
-returns-then-not-all-clause-known c =
-    subst (λ (es : List (ℕ × PlainSet)). AreKnown (plain_ground c.args.ground.now) c.args.budget (sets_in es) c.settle_all.new.blocks.told) c.begin_question.ensures.sets c.settle_all.ensures.known
-
 pub returns-then-not-all-clause-tallied : goal.returns-then-not-all-clause-tallied
 returns-then-not-all-clause-tallied c = tallied_rest (plain_ground c.args.ground.now) c.args.budget (sets_in c.args.blocks.now.sets) (map live_of c.args.live.now) (plain_tally c.rest.new.self) c.rest.ensures
-
-pub pick_of-requires-clause-sets : goal.pick_of-requires-clause-sets
-pick_of-requires-clause-sets c =
-    subst (λ (es : List (ℕ × PlainSet)). AreOf (map live_of c.args.live.now) (sets_in es)) (sym (c.settle_all.ensures.sets ∙ c.begin_question.ensures.sets)) c.requires.sets
-
-pub pick_of-requires-clause-known : goal.pick_of-requires-clause-known
-pick_of-requires-clause-known c =
-    subst (λ (es : List (ℕ × PlainSet)). AreKnown (plain_ground c.args.ground.now) c.args.budget (sets_in es) c.settle_all.new.blocks.told) (sym c.settle_all.ensures.sets) c.settle_all.ensures.known
 
 pub pick_of-requires-clause-tallied : goal.pick_of-requires-clause-tallied
 pick_of-requires-clause-tallied c =
@@ -67,10 +52,6 @@ pick_of-requires-clause-tallied c =
 
 pub returns-clause-sets : goal.returns-clause-sets
 returns-clause-sets c = c.pick_of.ensures.sets ∙ c.settle_all.ensures.sets ∙ c.begin_question.ensures.sets
-
-pub returns-clause-known : goal.returns-clause-known
-returns-clause-known c =
-    subst (λ (es : List (ℕ × PlainSet)). AreKnown (plain_ground c.args.ground.now) c.args.budget (sets_in es) c.pick_of.new.blocks.told) (c.settle_all.ensures.sets ∙ c.begin_question.ensures.sets) c.pick_of.ensures.known
 
 pub returns-clause-tallied : goal.returns-clause-tallied
 returns-clause-tallied c = λ w.

@@ -10,7 +10,7 @@ use Rattle.js_value.specs.Value.{PlainSet}
 use Rattle.bp_run.specs.Selecting.{Live}
 use Rattle.bp_select.specs.declared.candidate.Candidate.{Candidate}
 use Rattle.bp_select.specs.declared.key.Key.{Key}
-use Rattle.bp_select.specs.Tops.{Top}
+use Rattle.bp_select.specs.inner.Tops.{Top}
 
 abbrev pub event_of : Candidate → PlainEvent
 event_of c = c.event.now

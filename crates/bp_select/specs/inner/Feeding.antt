@@ -1,5 +1,5 @@
--- What a hasher is fed for an event: equal events are fed alike, and those that differ in a leaf are
--- not.
+-- What a hasher is fed for an event: its name and the leaves of its data, in order. Equal events are
+-- fed alike. Others may be: null, keys, and where lists begin and end are not fed.
 use Rattle.std.specs.Prelude.{ℕ, List, [], ◌++◌, Option, Some, None, fold}
 use Rattle.std.specs.Hash as fed
 use Rattle.std.specs.Hash.FoldHasher.{initial, write, finish}

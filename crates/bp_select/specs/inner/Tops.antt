@@ -1,5 +1,6 @@
 -- Requested events, each with the greatest priority with which it is requested.
-use Rattle.std.specs.Prelude.{◌≡◌, ℤ, int_le, List, [], ◌∷◌, map, Option, Some, None, if◌then◌else◌}
+use Rattle.std.specs.Prelude.{◌≡◌, ℤ, List, [], ◌∷◌, map, Option, Some, None, if◌then◌else◌}
+use Rattle.std.specs.Int.{int_max}
 use Rattle.js_data.specs.Event.{PlainEvent, same_event}
 use Rattle.js_value.specs.Value.{PlainSet}
 use Rattle.bp_run.specs.Selecting.{Live}
@@ -11,10 +12,10 @@ Top = PlainEvent × ℤ
 abbrev pub events_of : List Top → List PlainEvent
 events_of xs = map (λ x. x.0) xs
 
--- the greater one
+-- the priority once this one comes, too
 abbrev pub raised : Option ℤ → ℤ → ℤ
 raised None p = p
-raised (Some a) p = if int_le a p then p else a
+raised (Some a) p = int_max a p
 
 -- one more request of e
 abbrev pub with_request : ℤ → List Top → PlainEvent → List Top

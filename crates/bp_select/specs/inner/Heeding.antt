@@ -1,5 +1,5 @@
 -- Under which keys b-threads are noted, so that whoever an event touches is found by the event.
-use Rattle.std.specs.Prelude.{◌≡◌, ◌⊎◌, ℕ, Bool, false, true, List, [], ◌∷◌, Ok, None}
+use Rattle.std.specs.Prelude.{◌≡◌, ◌⊎◌, ℕ, Bool, false, true, List, Ok, None}
 use Rattle.js_data.specs.Event.{PlainEvent}
 use Rattle.js_value.specs.Value.{PlainSet}
 use Rattle.js_meaning.specs.State.{Ground}
@@ -9,9 +9,10 @@ use Rattle.bp_run.specs.Choosing.{touched}
 use Rattle.bp_roll.specs.Rolls.{PlainRoll, is_in, is_noted}
 use Rattle.bp_select.specs.declared.heeds.Heeds as heeds
 use Rattle.bp_known.specs.Known.{Sets}
-use Rattle.bp_select.specs.Blocks as blocks
-use Rattle.bp_select.specs.Feeding.{event_key}
-use Rattle.bp_select.specs.Parts.{asks_nothing, blocks_nothing}
+use Rattle.bp_select.specs.Tallies.{Each}
+use Rattle.bp_select.specs.inner.BlockSets.{AreOfUnchanged}
+use Rattle.bp_select.specs.inner.Feeding.{event_key}
+use Rattle.bp_select.specs.inner.Parts.{asks_nothing, blocks_nothing}
 
 -- the key of those that any event may touch
 abbrev pub any_key : ℕ
@@ -23,7 +24,7 @@ pub record Stays (e : PlainEvent) (t : Live PlainSet) : Type 0 where
   pub unasked : requests e t ≡ false
   pub each : (base : Ground) (budget : ℕ) → touched (member base budget) e t ≡ Ok None
 
--- the keys have that of each event which the set may have, and no event puts the set at fault
+-- an event whose key is not among these is not in the set, and does not put it at fault
 pub record HaveKeysOf (s : PlainSet) (ks : List ℕ) : Type 0 where
   pub each : (base : Ground) (budget : ℕ) (e : PlainEvent) →
       (is_in (event_key e) ks ≡ true) ⊎ (member base budget s e ≡ Ok false)
@@ -51,11 +52,6 @@ pub record HeedsAt (at : ℕ → Bool) (t : Live PlainSet) : Type 0 where
 abbrev pub IsNoted : PlainRoll → Live PlainSet → Type 0
 IsNoted r t = HeedsAt (λ k. is_noted r k t.number) t
 
--- what holds of each
-abbrev pub Each : (Live PlainSet → Type 0) → List (Live PlainSet) → Type 0
-Each P [] = Unit {0}
-Each P (t ∷ ts) = P t × Each P ts
-
 -- each is noted, or is among the changed
 abbrev pub AreNoted : List (Live PlainSet) → PlainRoll → List ℕ → Type 0
 AreNoted ts r changed = Each (λ t. (is_in t.number changed ≡ true) ⊎ IsNoted r t) ts
@@ -67,5 +63,5 @@ WhereWhole whole ts r changed = whole ≡ true → AreNoted ts r changed
 -- what is kept of the b-threads is so: which block sets they state, and whom an event may touch
 pub record AreKept (ts : List (Live PlainSet)) (sets : Sets) (changed : List ℕ) (h : heeds.Heeds)
     : Type 0 where
-  pub blocking : blocks.IsNoted ts sets changed
+  pub blocking : AreOfUnchanged ts sets changed
   pub heeding : WhereWhole h.whole ts h.roll h.changed.items

@@ -1,4 +1,4 @@
--- A live b-thread of a bench as the definitions see it.
+-- What a b-thread stated, as the definitions see it of a live one.
 use Rattle.std.specs.Borrow.{Bor}
 use Rattle.js_value.specs.Value.{PlainSet}
 use Rattle.bp_run.specs.Selecting.{Live}

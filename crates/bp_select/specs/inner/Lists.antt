@@ -1,9 +1,9 @@
--- Those of some b-threads that are live.
+-- Those of some b-threads that are live, where others left gaps.
 use Rattle.std.specs.Prelude.{◌≡◌, ℕ, ◌+◌, Bool, false, not, Option, None, Some, List, [], ◌∷◌, map, filter, if◌then◌else◌}
 use Rattle.js_value.specs.Value.{PlainSet}
 use Rattle.bp_run.specs.Selecting.{Live}
 use Rattle.bp_select.specs.declared.bench.Stated.{Stated}
-use Rattle.bp_select.specs.Lives.{live_of}
+use Rattle.bp_select.specs.inner.Lives.{live_of}
 use Rattle.bp_select.specs.Places.{AreInOrder}
 
 -- those that are live, and how many are not
@@ -28,6 +28,6 @@ is_gap None = false
 is_gap (Some s) = not s.here
 
 -- their numbers rise, and this many are not live
-pub record AreCounted (xs : List Stated) (count : ℕ) : Type 0 where
+pub record HasGaps (xs : List Stated) (count : ℕ) : Type 0 where
   pub order : AreInOrder (map live_of xs)
   pub gone : count ≡ gone_in xs

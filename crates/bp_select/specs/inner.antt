@@ -1,0 +1,16 @@
+-- What the contracts inside of this crate cite, and nothing that a user of a bench is promised by.
+pub mod Lives
+pub mod Lists
+pub mod Numbers
+pub mod Feeding
+pub mod Keys
+pub mod Tops
+pub mod Candidates
+pub mod Parts
+pub mod BlockSets
+pub mod Heeding
+pub mod Settled
+pub mod Touches
+pub mod Eligible
+pub mod Counting
+pub mod Counted
