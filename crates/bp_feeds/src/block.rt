@@ -11,7 +11,7 @@ const SIZE: usize = 4096;
 
 /// The bytes of the last read that were not yet taken. Contracts see it as the list of them.
 #[derive(Drop)]
-pub struct Block {
+pub(crate) struct Block {
     bytes: [u8; 4096],
     at: usize,
     end: usize,
@@ -29,7 +29,7 @@ impl Model for Block {
 
 impl Block {
     /// No bytes.
-    pub fn new() -> Block
+    pub(crate) fn new() -> Block
         ensures { result ≡ [] }
     {
         Block {
@@ -40,14 +40,14 @@ impl Block {
     }
 
     /// The bytes that were not yet taken.
-    pub fn rest(&self) -> &[u8]
+    pub(crate) fn rest(&self) -> &[u8]
         ensures { result.now ≡ self.now }
     {
         &self.bytes[self.at..self.end]
     }
 
     /// Takes this many bytes.
-    pub fn skip(&mut self, count: usize)
+    pub(crate) fn skip(&mut self, count: usize)
         requires { count ≤ length self.old }
         ensures { self.new ≡ drop count self.old }
     {
@@ -55,7 +55,7 @@ impl Block {
     }
 
     /// Asks the source for more bytes, and answers how many came. That none came means that none is left.
-    pub fn fill<S: Source>(&mut self, source: &mut S) -> Result<usize, Failed>
+    pub(crate) fn fill<S: Source>(&mut self, source: &mut S) -> Result<usize, Failed>
         requires { self.old ≡ [] }
         ensures given { OnOk result (Gives (S.left source.old) self.new (S.left source.new)) }
         ensures count { IfOk result (λ n. length self.new ≡ n) }

@@ -17,7 +17,7 @@ fn is_blank(line: &[u8]) -> bool
 }
 
 /// The item of the line of this number. None comes where the line is skipped.
-pub fn judge(alloc: Global, number: u32, line: &[u8]) -> Result<Option<Item>, Memory>
+pub(crate) fn judge(alloc: Global, number: u32, line: &[u8]) -> Result<Option<Item>, Memory>
     ensures { IfOk result (λ item. item ≡ item_of number line.now) }
 {
     if number > MOST_LINES || line.len() > MOST_LENGTH {
@@ -34,7 +34,7 @@ pub fn judge(alloc: Global, number: u32, line: &[u8]) -> Result<Option<Item>, Me
 }
 
 /// Whether the item is the last one.
-pub fn is_end(item: &Option<Item>) -> bool
+pub(crate) fn is_end(item: &Option<Item>) -> bool
     ensures { result ≡ ends item.now }
 {
     match item {
@@ -44,7 +44,7 @@ pub fn is_end(item: &Option<Item>) -> bool
 }
 
 /// How many bytes stand before the first LF. Where there is none, that is all.
-pub fn length_of_front(bytes: &[u8]) -> usize
+pub(crate) fn length_of_front(bytes: &[u8]) -> usize
     ensures within { result ≤ length bytes.now }
     ensures front { has_break (take result bytes.now) ≡ false }
     ensures stops { result < length bytes.now

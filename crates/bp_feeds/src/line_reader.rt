@@ -15,7 +15,7 @@ use std::alloc::Global;
 
 /// A source whose lines are read as items.
 #[derive(Drop)]
-pub struct LineReader<S> {
+pub(crate) struct LineReader<S> {
     alloc: Global,
     source: S,
     // The bytes of the last read that are not yet in the line.
@@ -34,7 +34,7 @@ impl<S: Source> LineReader<S> {
     ghost use Rattle.bp_feeds.specs.Feeds.{held, reading_of};
 
     /// The lines of a source, of which none was read.
-    pub fn new(alloc: Global, source: S) -> LineReader<S>
+    pub(crate) fn new(alloc: Global, source: S) -> LineReader<S>
         ensures source { result.source ≡ source }
         ensures reading { reading_of S.left result
             ≡ record { held = []; number = 1; reached = Reached.Within; left = S.left source } }
@@ -50,14 +50,14 @@ impl<S: Source> LineReader<S> {
     }
 
     /// The source, given back.
-    pub fn back(self) -> S
+    pub(crate) fn back(self) -> S
         ensures { result ≡ self.source }
     {
         self.source
     }
 
     /// Whether the last item was read.
-    pub fn is_read(&self) -> bool
+    pub(crate) fn is_read(&self) -> bool
         ensures { result ≡ is_read self.now.reached }
     {
         match self.reached {
@@ -67,7 +67,7 @@ impl<S: Source> LineReader<S> {
     }
 
     /// Whether a whole line is held.
-    pub fn holds_line(&self) -> bool
+    pub(crate) fn holds_line(&self) -> bool
         ensures { result ≡ has_break (held self.now) }
     {
         let rest = self.block.rest();
@@ -193,7 +193,7 @@ impl<S: Source> LineReader<S> {
     /// # Errors
     ///
     /// Out of memory, and then the same is still to be read.
-    pub fn next(&mut self) -> Result<Option<Item>, Memory>
+    pub(crate) fn next(&mut self) -> Result<Option<Item>, Memory>
         requires { is_read self.old.reached ≡ false }
         ensures reads { IfOk result (λ item.
             ReadsOn (reading_of S.left self.old) (option_to_list item)

@@ -2,7 +2,7 @@
 
 /// What was reached.
 #[derive(Clone, Copy, PartialEq, Eq)]
-pub enum Reached {
+pub(crate) enum Reached {
     /// A line, or the end, is still to come.
     Within,
     /// The end, after the last line. It was not yet told.
@@ -17,7 +17,7 @@ pub enum Reached {
 
 /// What stands at the front of what is still to be dealt with.
 #[derive(Clone, Copy)]
-pub enum Moved {
+pub(crate) enum Moved {
     /// A line, with its LF.
     Line,
     /// Bytes without LF.
@@ -28,7 +28,7 @@ pub enum Moved {
 
 /// What comes next.
 #[derive(Clone, Copy)]
-pub enum Gathered {
+pub(crate) enum Gathered {
     /// A line, with its LF.
     Line,
     /// The last line, which has no LF, or nothing.

@@ -14,7 +14,7 @@ use std::thread::{Promise, Threads};
 
 /// A thread is handed only a feed that is not over.
 #[derive(Clone, Copy)]
-pub struct NotOver;
+pub(crate) struct NotOver;
 
 impl<S> Protocol<Feed<S>> for NotOver {
     ghost use Rattle.std.specs.Prelude.{◌≡◌, false};
@@ -25,25 +25,25 @@ impl<S> Protocol<Feed<S>> for NotOver {
 
 /// What the thread of an injector gives back.
 #[derive(Drop)]
-pub struct Turned<S> {
+pub(crate) struct Turned<S> {
     /// The feed that it was handed, as its turns left it.
-    pub feed: Feed<S>,
+    pub(crate) feed: Feed<S>,
     /// What `inject` answered.
-    pub answer: Result<Injected, Memory>,
+    pub(crate) answer: Result<Injected, Memory>,
     /// Where it took the feed.
-    pub intake: Consumer<Feed<S>, Global, NotOver>,
+    pub(crate) intake: Consumer<Feed<S>, Global, NotOver>,
 }
 
 /// What a thread gives back is what became of a feed that it took from here.
 #[derive(Drop)]
-pub struct FromIntake<S>(pub Snapshot<Consumer<Feed<S>, Global, NotOver>>);
+pub(crate) struct FromIntake<S>(pub(crate) Snapshot<Consumer<Feed<S>, Global, NotOver>>);
 
 impl<S: Source> Promise<Turned<S>> for FromIntake<S> {
     ghost kept_by = { λ p r. IsTurned S.left S.faults p.0.value r };
 }
 
 /// Waits for a feed, and makes its turns.
-pub fn take_and_turn<S: Source, R: Threads + Wait + Sync>(
+pub(crate) fn take_and_turn<S: Source, R: Threads + Wait + Sync>(
     rt: &R,
     bell: &Bell,
     mut intake: Consumer<Feed<S>, Global, NotOver>,

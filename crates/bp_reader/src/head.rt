@@ -290,7 +290,7 @@ fn body_of<S: Source>(
 
 /// The version and the header.
 #[tactic(auto, unfolding(bp_reading::specs::Heads::header_at))]
-pub fn header_of<S: Source>(
+pub(crate) fn header_of<S: Source>(
     alloc: Global,
     input: &mut Input<S>,
 ) -> Result<(Version, Header), LogFault>

@@ -11,7 +11,7 @@ use std::marker::Model;
 
 /// Why reading failed.
 #[derive(Clone, Copy)]
-pub enum Fault {
+pub(crate) enum Fault {
     /// The source failed.
     Read,
     /// Out of memory.
@@ -52,7 +52,7 @@ impl From<Failed> for Fault {
 }
 
 /// A line, without its LF.
-pub enum Taken {
+pub(crate) enum Taken {
     /// The line.
     Line(Vec<u8>),
     /// The input ended before the LF.
@@ -73,7 +73,7 @@ impl Drop for Taken {
 
 /// A source, and the part of its last block that wasn't taken yet.
 #[derive(Drop)]
-pub struct Input<S: Source> {
+pub(crate) struct Input<S: Source> {
     source: S,
     block: [u8; 4096],
     at: usize,
@@ -97,7 +97,7 @@ impl<S: Source> Model for Input<S> {
 
 impl<S: Source> Input<S> {
     /// The source, of which nothing was taken yet.
-    pub fn new(source: S) -> Input<S>
+    pub(crate) fn new(source: S) -> Input<S>
         ensures { result ≡ record {
           left = S.left source;
           faults = S.faults source;
@@ -113,7 +113,7 @@ impl<S: Source> Input<S> {
     }
 
     /// The source, from which whole blocks were taken.
-    pub fn back(self) -> S
+    pub(crate) fn back(self) -> S
         ensures faults { S.faults result ≡ self.faults }
         ensures left { GivesSome self.left (S.left result) }
         ensures source { S.left result ≡ self.source }
@@ -122,7 +122,7 @@ impl<S: Source> Input<S> {
     }
 
     /// The next byte, or `None` at the end.
-    pub fn byte(&mut self) -> Result<Option<u8>, Failed>
+    pub(crate) fn byte(&mut self) -> Result<Option<u8>, Failed>
         ensures given { IfOk result (λ b. Comes self.old.left b self.new.left) }
         ensures failed { OnErr result (self.new.left ≡ self.old.left) }
         ensures empty { OnErr result (self.new.left ≡ self.new.source) }
@@ -144,7 +144,7 @@ impl<S: Source> Input<S> {
 
     /// The next line, of at most `room` bytes. If the source failed, a part of a line was taken,
     /// and all that is still to come is the source's.
-    pub fn line(&mut self, alloc: Global, room: u32) -> Result<Taken, Fault>
+    pub(crate) fn line(&mut self, alloc: Global, room: u32) -> Result<Taken, Fault>
         ensures line { IfOk result (λ t. IfSome self.old.left
             (λ bytes. IsFront t (line_at room bytes) self.new.left)) }
         ensures failed { IsErrOf result Fault.Read

@@ -11,7 +11,7 @@ use std::marker::Model;
 
 /// What is known of a log after the records that were read.
 #[derive(Drop)]
-pub struct Progress {
+pub(crate) struct Progress {
     version: Version,
     injectors: u32,
     over: Vec<u32>,
@@ -39,7 +39,7 @@ impl Model for Progress {
 
 impl Progress {
     /// Of a log of this version with this many injectors, before its first record.
-    pub fn new(alloc: Global, version: Version, injectors: u32) -> Progress
+    pub(crate) fn new(alloc: Global, version: Version, injectors: u32) -> Progress
         ensures { result ≡ first_stage version injectors }
     {
         Progress {
@@ -52,7 +52,7 @@ impl Progress {
     }
 
     /// How many bytes the line of a record may have.
-    pub fn line_room(&self) -> u32
+    pub(crate) fn line_room(&self) -> u32
         ensures { result ≡ line_room self.now.version }
     {
         match self.version {
@@ -93,7 +93,7 @@ impl Progress {
     }
 
     /// Counts one more record. After an error nothing has changed.
-    pub fn count(&mut self, entry: &Record) -> Result<(), Memory>
+    pub(crate) fn count(&mut self, entry: &Record) -> Result<(), Memory>
         requires { self.old.lines < MOST_RECORDS }
         ensures counted { IfOk result (λ _. self.new ≡ after self.old entry.now) }
         ensures failed { OnErr result (self.new ≡ self.old) }
@@ -110,7 +110,7 @@ impl Progress {
     }
 
     /// The record that the line says, if it can stand next.
-    pub fn record_of(&self, alloc: Global, line: &[u8]) -> Result<Option<Record>, Memory>
+    pub(crate) fn record_of(&self, alloc: Global, line: &[u8]) -> Result<Option<Record>, Memory>
         ensures { IfOk result (λ r. r ≡ next_record self.now line.now) }
     {
         match record_of(alloc, line)? {
@@ -126,21 +126,21 @@ impl Progress {
     }
 
     /// The refusal of the next line.
-    pub fn bad_line(&self) -> LogFault
+    pub(crate) fn bad_line(&self) -> LogFault
         ensures { result ≡ LogFault.Line (self.now.lines + 1) }
     {
         LogFault::Line(self.lines + 1)
     }
 
     /// Whether the last record was the end.
-    pub fn has_ended(&self) -> bool
+    pub(crate) fn has_ended(&self) -> bool
         ensures { result ≡ self.now.ended }
     {
         self.ended
     }
 
     /// Whether no further line can come.
-    pub fn is_full(&self) -> bool
+    pub(crate) fn is_full(&self) -> bool
         ensures { result ≡ nat_le MOST_RECORDS self.now.lines }
     {
         self.lines >= MOST_RECORDS
