@@ -19,8 +19,8 @@ use Rattle.bp_answers.specs.declared.answer.NoAnswer.{NoAnswer}
 use Rattle.bp_answers.specs.declared.answer.NoAnswer.TheVariants.{Refused, Absent}
 use Rattle.bp_answers.specs.Asking.{Asked, AnswersBehind, HasNoHeader, HasNoProgram, IsState, RefusesBehind}
 use Rattle.bp_answers.specs.Faults.{refused_log}
-use Rattle.bp_answers.specs.Reading.{ReadsAs, ReadsFault}
-use Rattle.bp_answers.specs.Walking.{PartsAs}
+use Rattle.bp_answers.specs.inner.Read.{ReadsAs, ReadsFault}
+use Rattle.bp_answers.specs.inner.Led.{PartsAs}
 
 -- what holds of the records holds of each rest, where the source tells it
 pub told : (P Q : List ℕ → Type 0) (rest : Option (List ℕ)) → IfSome rest P → ((bytes : List ℕ) → P bytes → Q bytes) → IfSome rest Q

@@ -9,7 +9,7 @@ use Rattle.bp_log.specs.declared.record.Record.TheVariants.{In, Bad, Eof, Sel, E
 use Rattle.bp_log.specs.declared.verdict.Verdict.{Verdict}
 use Rattle.bp_explain.specs.Explained.{before_end}
 use Rattle.bp_explain.specs.Whys.{before_selection}
-use Rattle.bp_answers.specs.Reasons.{IsPlaceOf}
+use Rattle.bp_answers.specs.inner.Reasons.{IsPlaceOf}
 use Rattle.bp_answers.proofs.Walks.{IsNoEnd, end_on, taken_more}
 
 -- ---- looked for, one record after the other

@@ -16,8 +16,9 @@ use Rattle.bp_answers.specs.declared.answer.NoAnswer.{NoAnswer}
 use Rattle.bp_answers.specs.declared.answer.NoAnswer.TheVariants.{Refused, Absent}
 use Rattle.bp_explain.specs.Explained.{before_end}
 use Rattle.bp_answers.specs.Faults.{refused_log}
-use Rattle.bp_answers.specs.Walking.{EndsLast}
-use Rattle.bp_answers.specs.Reading.{IsEnd, AreAsked, AreFewer, IsSpoiled, ReadsFault, ReadsAs, EndsAs}
+use Rattle.bp_answers.specs.inner.Led.{EndsLast}
+use Rattle.bp_answers.specs.Reading.{IsEnd, AreAsked, AreFewer, IsSpoiled}
+use Rattle.bp_answers.specs.inner.Read.{ReadsFault, ReadsAs, EndsAs}
 
 -- what a source tells of the bytes was read so far
 abbrev pub Reached : Stage → Option (List ℕ) → List Record → Stage → Option (List ℕ) → Type 0

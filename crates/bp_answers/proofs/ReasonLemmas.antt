@@ -42,9 +42,10 @@ use Rattle.bp_explain.specs.Reasons.{asked_line, why_lines}
 use Rattle.bp_explain.specs.Whys.{asked_at_rest, asked_text, before_selection, why, why_heading, why_next, why_not, why_not_of, why_of, why_text}
 use Rattle.bp_explain.proofs.Selected.{rests_on, enabled_there}
 use Rattle.bp_explain.proofs.Reasoned.{asked_is, chosen_is, why_is}
-use Rattle.bp_answers.specs.Resting.{plain_stop, stops_from}
-use Rattle.bp_answers.specs.Reasons.{DiffersWhere, HasFewer, IsUpTo, SaysAsked, SaysWhy, WritesAsked, WritesWhy}
-use Rattle.bp_answers.specs.Walking.{IsEnded, LeadsTo, PartsAs}
+use Rattle.bp_answers.specs.inner.Resting.{plain_stop, stops_from}
+use Rattle.bp_answers.specs.inner.Reasons.{DiffersWhere, SaysAsked, SaysWhy, WritesAsked, WritesWhy}
+use Rattle.bp_answers.specs.Whys.{HasNoSelection, IsUpTo}
+use Rattle.bp_answers.specs.inner.Led.{IsEnded, LeadsTo, PartsAs}
 use Rattle.bp_answers.proofs.Rests.{are_stops, has_is, lives_forgotten, rest_going, told_is}
 use Rattle.bp_answers.proofs.States.{over_of, over_some}
 use Rattle.bp_answers.proofs.Places.{no_end_at}
@@ -379,8 +380,8 @@ why_numbered program options (suc n) records text h w =
     let e : suc n - 1 ≡ n = omega arith in
     ap (λ (k : ℕ). why (code_of program options) options k records) (sym e) ∙ w
 
-pub has_fewer : (n : ℕ) (records : List Record) → (n ≡ 0 → ⊥) → before_selection (n - 1) [] records ≡ None → HasFewer n records
-has_fewer zero records h w = tt
-has_fewer (suc n) records h w =
+pub has_no_selection : (n : ℕ) (records : List Record) → (n ≡ 0 → ⊥) → before_selection (n - 1) [] records ≡ None → HasNoSelection n records
+has_no_selection zero records h w = tt
+has_no_selection (suc n) records h w =
     let e : suc n - 1 ≡ n = omega arith in
     ap (λ (k : ℕ). before_selection k [] records) (sym e) ∙ w

@@ -41,7 +41,7 @@ use Rattle.bp_explain.specs.Explained.{words_of}
 use Rattle.bp_explain.specs.Standing.{Standing, standing, standing_at}
 use Rattle.bp_explain.specs.Stops.{live_of, standing_of, rest_lines}
 use Rattle.bp_explain.proofs.Stood.{AreNamed, AreStopsOf, rest_is}
-use Rattle.bp_answers.specs.Resting.{PlainStop, plain_stop, stop_of, stop_at, stops_from, RestsAs}
+use Rattle.bp_answers.specs.inner.Resting.{PlainStop, plain_stop, stop_of, stop_at, stops_from, RestsAs}
 use Rattle.bp_answers.proofs.Walks.{code_is}
 
 abbrev standing_in : PlainStop → Standing PlainSet

@@ -23,8 +23,8 @@ use Rattle.bp_replay.proofs.Tales.{one_more, end_told}
 use Rattle.bp_replay.proofs.Steps.{recounts_course}
 use Rattle.bp_explain.specs.Explained.{before_end, heading, if_at_rest, state_after, within_turn, state_of, verdict_line, words_of}
 use Rattle.bp_explain.specs.States.{rest_text}
-use Rattle.bp_answers.specs.Resting.{RestsAs}
-use Rattle.bp_answers.specs.Walking.{EndsLast, IsEnded, LeadsTo, PartsAs, rest_in}
+use Rattle.bp_answers.specs.inner.Resting.{RestsAs}
+use Rattle.bp_answers.specs.inner.Led.{EndsLast, IsEnded, LeadsTo, PartsAs, rest_in}
 use Rattle.bp_answers.proofs.Walks.{story_at, parts_as}
 
 -- ---- the verdict

@@ -28,7 +28,8 @@ use Rattle.bp_replay.specs.Courses.{Course, code_in, led, IsTold}
 use Rattle.bp_replay.specs.Following.{first_of, IsOnWay, IsThere, IsSaid, onto, GoesOn, Makes, Followed}
 use Rattle.bp_replay.proofs.Opened.{on_way_opened}
 use Rattle.bp_explain.specs.Explained.{before_end}
-use Rattle.bp_answers.specs.Walking.{LeadsTo, Parts, PartsAs}
+use Rattle.bp_answers.specs.inner.Led.{LeadsTo, PartsAs}
+use Rattle.bp_answers.specs.Walking.{Parts}
 
 -- ---- lines that are let go
 

@@ -19,8 +19,8 @@ use Rattle.bp_answers.specs.declared.answer.NoAnswer.TheVariants.{Refused, Absen
 use Rattle.bp_explain.specs.declared.subject.Subject.{Subject}
 use Rattle.bp_answers.specs.Asking.{HasNoProgram}
 use Rattle.bp_answers.specs.Faults.{refused_log}
-use Rattle.bp_answers.specs.Reading.{ReadsAs, ReadsFault}
-use Rattle.bp_answers.specs.Reasons.{DiffersWhere, HasNothing}
+use Rattle.bp_answers.specs.inner.Read.{ReadsAs, ReadsFault}
+use Rattle.bp_answers.specs.inner.Reasons.{DiffersWhere, HasNothing}
 use Rattle.bp_answers.specs.Whys.{IsAsked, IsMissing, IsWhy, WhyBehind, said_of}
 use Rattle.bp_answers.proofs.Asks.{asked_in, told, unheaded}
 

@@ -37,8 +37,9 @@ HasNoProgram header Program = (refusal : Refusal) × IsRefused header.program re
 HasNoProgram header Write = ⊥
 HasNoProgram header Memory = Unit {0}
 
--- a log is refused after its header: first where its records are no records, then where its program is refused, then
--- where the run does not make a record; out of memory says nothing
+-- A log is refused after its header: first where what stands next before all that is asked for was
+-- read is no record, then where its program is refused, then where the run does not make a record. Out
+-- of memory says nothing.
 abbrev pub RefusesBehind : Version → PlainHeader → List ℕ → Option ℕ → ReplayFault → Type 0
 RefusesBehind version header rest number (Log f) =
     ReadsSome (first_stage version header.options.injectors) rest (IsSpoiled number f)
@@ -52,7 +53,8 @@ RefusesBehind version header rest number Write = ⊥
 RefusesBehind version header rest number Memory = Unit {0}
 
 -- what is answered about a log after its header
-abbrev pub AnswersBehind : Version → PlainHeader → List ℕ → Option ℕ → Result (String Global) NoAnswer → Type 0
+abbrev pub AnswersBehind : Version → PlainHeader → List ℕ → Option ℕ →
+    Result (String Global) NoAnswer → Type 0
 AnswersBehind version header rest number (Ok text) =
     (a : Asked version header rest number)
     × (state_of a.program header.options a.records ≡ Some (string_bytes text))

@@ -57,9 +57,9 @@ fn state_behind<S: Source>(
 ///
 /// # Errors
 ///
-/// `Log` exactly where the bytes are no log so far, and `Absent` exactly where the log has fewer
-/// records; else `Program` exactly where its program is refused; and else `Differs` exactly at the
-/// first record that the run does not make.
+/// `Log` exactly where the bytes are no log so far, or reading failed, and `Absent` exactly where the
+/// log has fewer records; else `Program` exactly where its program is refused; and else `Differs`
+/// exactly at the first record that the run does not make. And `Memory`.
 pub fn state<S: Source>(alloc: Global, log: S, number: Option<u32>) -> Answer<S>
     ensures answers { IfSome (S.left log) (λ bytes. IsState bytes number result.text) }
     ensures read { IsErrOf result.text (NoAnswer.Refused (ReplayFault.Log log_fault.Read))

@@ -3,8 +3,8 @@ ghost use Rattle.std.specs.Prelude.{◌≡◌, ◌↔◌, ◌≤◌, false, leng
 ghost use Rattle.bp_base.specs.Counts.{Rose};
 ghost use Rattle.bp_reader.specs.declared.fault.LogFault.TheVariants as log_fault;
 ghost use Rattle.bp_reading.specs.declared.limits.TheConstants.{MOST_RECORDS};
-ghost use Rattle.bp_answers.specs.Reading.{EndsAs, ReadsAs};
-ghost use Rattle.bp_answers.specs.Walking.{EndsLast};
+ghost use Rattle.bp_answers.specs.inner.Read.{EndsAs, ReadsAs};
+ghost use Rattle.bp_answers.specs.inner.Led.{EndsLast};
 
 use crate::NoAnswer;
 use bp_base::Source;

@@ -6,8 +6,9 @@ ghost use Rattle.bp_floor.specs.declared.phase.Phase.TheVariants as phase;
 ghost use Rattle.bp_replay.specs.Courses.{Course};
 ghost use Rattle.bp_replay.specs.Following.{IsSomewhere, IsThere};
 ghost use Rattle.bp_explain.specs.Whys.{why, why_heading, why_not_of, why_of};
-ghost use Rattle.bp_answers.specs.Walking.{EndsLast, PartsAs};
-ghost use Rattle.bp_answers.specs.Reasons.{DiffersWhere, HasFewer, HasNothing, IsPlaceOf, IsUpTo, WritesAsked, WritesWhy};
+ghost use Rattle.bp_answers.specs.inner.Led.{EndsLast, PartsAs};
+ghost use Rattle.bp_answers.specs.inner.Reasons.{DiffersWhere, HasNothing, IsPlaceOf, WritesAsked, WritesWhy};
+ghost use Rattle.bp_answers.specs.Whys.{HasNoSelection, IsUpTo};
 
 use crate::NoAnswer;
 use crate::saying::{write_end, write_heading, write_within_turn};
@@ -110,7 +111,7 @@ pub fn why_text(
     ensures told { IfOk result (λ s.
         why_of program options number records.now ≡ Some (string_bytes s)) }
     ensures none { IfErr result (λ f. HasNothing program options records.now
-        (IsUpTo number records.now) (HasFewer number records.now) f) }
+        (IsUpTo number records.now) (HasNoSelection number records.now) f) }
 {
     if number == 0 {
         return Err(NoAnswer::Absent);

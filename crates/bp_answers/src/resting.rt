@@ -5,7 +5,7 @@ ghost use Rattle.bp_run.specs.Selecting.{Asked, Enabled as Plain};
 ghost use Rattle.bp_select.specs.Answers.{AnswersAs, enabled_of};
 ghost use Rattle.bp_floor.specs.declared.phase.Phase.TheVariants as phase;
 ghost use Rattle.bp_explain.specs.Blocking.{is_nothing};
-ghost use Rattle.bp_answers.specs.Resting.{plain_stop, stops_from, RestsAs};
+ghost use Rattle.bp_answers.specs.inner.Resting.{plain_stop, stops_from, RestsAs};
 
 use bp_arbiter::{Arbiter, Floor};
 use bp_explain::{Rest, Stop, write_rest};

@@ -2,18 +2,17 @@
 ghost use Rattle.std.specs.Prelude.{◌≡◌, ◌≤◌, ◌++◌, length, option_map, Some, None, IfOk, IfErr, OnOk, codes, decimal, string_bytes};
 ghost use Rattle.js_program.specs.PlainProgram.{PlainProgram};
 ghost use Rattle.bp_log.specs.Options.{PlainOptions};
-ghost use Rattle.bp_log.specs.Records.{verdict_of};
 ghost use Rattle.bp_reading.specs.declared.limits.TheConstants.{MOST_RECORDS};
 ghost use Rattle.bp_floor.specs.declared.phase.Phase.TheVariants as phase;
 ghost use Rattle.bp_replay.specs.Courses.{Course};
 ghost use Rattle.bp_replay.specs.Following.{IsSomewhere, IsThere};
 ghost use Rattle.bp_explain.specs.Explained.{before_end, heading, state_of, verdict_line, within_turn};
-ghost use Rattle.bp_answers.specs.Walking.{EndsLast, IsEnded, LeadsTo, PartsAs, rest_in};
+ghost use Rattle.bp_answers.specs.inner.Led.{EndsLast, IsEnded, LeadsTo, PartsAs, rest_in};
 
 use crate::resting::write_at_rest;
 use crate::walking::walk;
 use bp_arbiter::{Arbiter, Phase};
-use bp_log::{Line, Memory, Options, Record, Verdict, whole_line_of};
+use bp_log::{Line, Memory, Options, Record, Verdict, verdict_of, whole_line_of};
 use bp_notes::record_text_of;
 use bp_replay::{ReplayFault, follow};
 use js_program::Program;
@@ -37,16 +36,6 @@ pub(crate) fn write_heading(
             let words = format!(in alloc; "after record {number}: {last}\n")?;
             text.push_str(words.as_str())
         }
-    }
-}
-
-/// The verdict of the records, where the last of them is an end.
-fn end_of(records: &[Record]) -> Option<&Verdict>
-    ensures { option_map (λ v. v.now) result ≡ verdict_of records.now }
-{
-    match records.last() {
-        None => None,
-        Some(last) => last.verdict(),
     }
 }
 
@@ -127,7 +116,7 @@ pub(crate) fn write_end(
         LeadsTo program options (before_end records.now) arbiter.old →
         PartsAs program options records.now f) }
 {
-    let Some(verdict) = end_of(records) else {
+    let Some(verdict) = verdict_of(records) else {
         write_verdict(alloc, arbiter.verdict(), text)?;
         return Ok(());
     };

@@ -5,7 +5,7 @@ ghost use Rattle.bp_floor.specs.Floors.{has_on, live_on};
 ghost use Rattle.bp_floor.specs.declared.phase.Phase.TheVariants as phase;
 ghost use Rattle.bp_select.specs.Answers.{enabled_of};
 ghost use Rattle.bp_arbiter.specs.Arbiters.{stand_in};
-ghost use Rattle.bp_answers.specs.Reasons.{SaysAsked, SaysWhy};
+ghost use Rattle.bp_answers.specs.inner.Reasons.{SaysAsked, SaysWhy};
 
 use crate::resting::stops;
 use bp_arbiter::Arbiter;

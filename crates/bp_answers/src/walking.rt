@@ -5,7 +5,7 @@ ghost use Rattle.bp_reading.specs.declared.limits.TheConstants.{MOST_RECORDS};
 ghost use Rattle.bp_replay.specs.Courses.{Course};
 ghost use Rattle.bp_replay.specs.Following.{IsOnSomeWay, IsOnWay, IsThere};
 ghost use Rattle.bp_explain.specs.Explained.{before_end};
-ghost use Rattle.bp_answers.specs.Walking.{LeadsTo, PartsAs};
+ghost use Rattle.bp_answers.specs.inner.Led.{LeadsTo, PartsAs};
 
 use bp_arbiter::Arbiter;
 use bp_log::{Memory, Options, Parallelism, Record};

@@ -4,8 +4,8 @@ ghost use Rattle.bp_base.specs.Counts.{Rose};
 ghost use Rattle.bp_reading.specs.Reading.{first_stage};
 ghost use Rattle.bp_reading.specs.declared.limits.TheConstants.{MOST_RECORDS};
 ghost use Rattle.bp_reader.specs.declared.fault.LogFault.TheVariants as log_fault;
-ghost use Rattle.bp_answers.specs.Walking.{EndsLast};
-ghost use Rattle.bp_answers.specs.Reasons.{HasNothing};
+ghost use Rattle.bp_answers.specs.inner.Led.{EndsLast};
+ghost use Rattle.bp_answers.specs.inner.Reasons.{HasNothing};
 ghost use Rattle.bp_answers.specs.Whys.{IsAsked, IsMissing, IsWhy, WhyBehind, said_of};
 
 use crate::asking::program_of;
@@ -77,9 +77,9 @@ fn why_behind<S: Source>(
 ///
 /// # Errors
 ///
-/// `Log` exactly where the bytes are no log; else `Program` exactly where its program is refused; else
-/// `Absent` exactly where the log has fewer selections, and `Differs` exactly at the first record up
-/// to it that the run does not make.
+/// `Log` exactly where the bytes are no log, or reading failed; else `Program` exactly where its program
+/// is refused; else `Absent` exactly where the log has fewer selections, and `Differs` exactly at the
+/// first record up to it that the run does not make, or, of an event, the first of all. And `Memory`.
 pub fn why<S: Source>(alloc: Global, log: S, subject: &Subject) -> Answer<S>
     ensures answers { IfSome (S.left log) (λ bytes. IsWhy bytes subject.now result.text) }
     ensures read { IsErrOf result.text (NoAnswer.Refused (ReplayFault.Log log_fault.Read))

@@ -6,7 +6,8 @@ use Rattle.std.proofs.lemmas.List.Folds.{list_any-append}
 use Rattle.std.proofs.Math.ListN.{drop_of_length-le}
 use Rattle.std.proofs.lemmas.Option.{slice_get_within, get_or_from_slice_get}
 use Rattle.js_program.specs.PlainProgram.{PlainNode, parts_of}
-use Rattle.bp_check.specs.Tops.{has, with_parts, numbers_in, Marks}
+use Rattle.bp_check.specs.Tops.{has, with_parts, numbers_in}
+use Rattle.bp_check.specs.inner.Marks.{Marks}
 
 -- what a list goes on with at a place
 pub drop_at : {X : Type 0} (xs : List X) (i : ℕ) (x : X) → slice_get xs i ≡ Some x → drop i xs ≡ x ∷ drop (suc i) xs

@@ -2,3 +2,4 @@ pub mod Words
 pub mod Tops
 pub mod Findings
 pub mod Sentences
+pub mod inner

@@ -1,5 +1,5 @@
 -- The nodes of the top level.
-use Rattle.std.specs.Prelude.{◌≡◌, ◌<◌, ℕ, suc, Bool, false, nat_eq, length, get_or, List, [], ◌∷◌, ◌++◌, if◌then◌else◌}
+use Rattle.std.specs.Prelude.{ℕ, suc, Bool, nat_eq, List, [], ◌∷◌, ◌++◌, if◌then◌else◌}
 use Rattle.std.specs.List.{list_any}
 use Rattle.js_program.specs.PlainProgram.{PlainNode, PlainProgram, parts_of, content_parts}
 
@@ -22,7 +22,3 @@ top_numbers p = numbers_in (content_parts p.top.content) 0 p.nodes
 
 abbrev pub is_at_top : PlainProgram → ℕ → Bool
 is_at_top p n = has (top_numbers p) n
-
--- for each of the nodes, whether its number is one of these
-abbrev pub Marks : List Bool → List ℕ → Type 0
-Marks marks numbers = (k : ℕ) → k < length marks → get_or marks k false ≡ has numbers k

@@ -86,7 +86,7 @@ fn write_division(
 }
 
 /// Writes what is found of an operator.
-pub fn write_operator(
+pub(crate) fn write_operator(
     alloc: Global,
     program: &Program,
     line: u32,
@@ -108,7 +108,7 @@ pub fn write_operator(
 }
 
 /// Writes what is found of a division that rounds down.
-pub fn write_floor(
+pub(crate) fn write_floor(
     alloc: Global,
     program: &Program,
     line: u32,
@@ -122,7 +122,7 @@ pub fn write_floor(
 }
 
 /// Writes what is found of an assignment.
-pub fn write_assigning(
+pub(crate) fn write_assigning(
     alloc: Global,
     program: &Program,
     line: u32,

@@ -23,7 +23,7 @@ fn is_neither(form: &NodeForm) -> bool
 }
 
 /// Whether what is written so is no text.
-pub fn is_no_text(form: &NodeForm) -> bool
+pub(crate) fn is_no_text(form: &NodeForm) -> bool
     ensures { result ≡ is_no_text (plain_node_form form.now) }
 {
     match form {
@@ -33,7 +33,7 @@ pub fn is_no_text(form: &NodeForm) -> bool
 }
 
 /// Whether what is written so is no statement.
-pub fn is_no_statement(form: &NodeForm) -> bool
+pub(crate) fn is_no_statement(form: &NodeForm) -> bool
     ensures { result ≡ is_no_statement (plain_node_form form.now) }
 {
     match form {
@@ -43,7 +43,7 @@ pub fn is_no_statement(form: &NodeForm) -> bool
 }
 
 /// Whether a node is as if nothing stood there, or there is none of this number.
-pub fn is_absent(program: &Program, number: u32) -> bool
+pub(crate) fn is_absent(program: &Program, number: u32) -> bool
     ensures { result ≡ is_absent (slice_get program.now.nodes number) }
 {
     if number >= program.nodes() {

@@ -57,7 +57,7 @@ fn is_field(program: &Program, word: &Text) -> bool
 }
 
 /// Writes that a method is not there, where that is so.
-pub fn write_method(
+pub(crate) fn write_method(
     alloc: Global,
     program: &Program,
     line: u32,

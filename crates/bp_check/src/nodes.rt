@@ -2,7 +2,7 @@
 ghost use Rattle.std.specs.Prelude.{◌≡◌, ◌<◌, ◌++◌, IfOk, OnOk, length, string_bytes};
 ghost use Rattle.js_program.specs.Views.{plain_node};
 ghost use Rattle.bp_check.specs.Tops.{is_at_top as stands_at_top};
-ghost use Rattle.bp_check.specs.Findings.{of_node, found_at, findings};
+ghost use Rattle.bp_check.specs.Findings.{of_node, found_at};
 ghost use Rattle.bp_check.specs.Sentences.{findings_text, check_text};
 
 use crate::divisions::{write_assigning, write_floor, write_operator};

@@ -31,7 +31,7 @@ fn no_method_words(alloc: Global, word: &Text) -> Result<String, Memory>
 }
 
 /// Writes that no value has a method of this name.
-pub fn write_no_method(
+pub(crate) fn write_no_method(
     alloc: Global,
     line: u32,
     word: &Text,
@@ -54,7 +54,12 @@ fn no_key_words(alloc: Global, key: &Text) -> Result<String, Memory>
 }
 
 /// Writes that a statement has no such key.
-pub fn write_no_key(alloc: Global, line: u32, key: &Text, text: &mut String) -> Result<(), Memory>
+pub(crate) fn write_no_key(
+    alloc: Global,
+    line: u32,
+    key: &Text,
+    text: &mut String,
+) -> Result<(), Memory>
     ensures { OnOk result (string_bytes text.new
         ≡ string_bytes text.old ++ findings_text (one line (f.no_key key.now))) }
 {
@@ -63,7 +68,7 @@ pub fn write_no_key(alloc: Global, line: u32, key: &Text, text: &mut String) -> 
 }
 
 /// Writes that `bp.sync` has no statement.
-pub fn write_no_statement(alloc: Global, line: u32, text: &mut String) -> Result<(), Memory>
+pub(crate) fn write_no_statement(alloc: Global, line: u32, text: &mut String) -> Result<(), Memory>
     ensures { OnOk result (string_bytes text.new
         ≡ string_bytes text.old ++ findings_text (one line f.no_statement)) }
 {
@@ -71,7 +76,7 @@ pub fn write_no_statement(alloc: Global, line: u32, text: &mut String) -> Result
 }
 
 /// Writes that `bp.ASSERT` has no text.
-pub fn write_no_text(alloc: Global, line: u32, text: &mut String) -> Result<(), Memory>
+pub(crate) fn write_no_text(alloc: Global, line: u32, text: &mut String) -> Result<(), Memory>
     ensures { OnOk result (string_bytes text.new
         ≡ string_bytes text.old ++ findings_text (one line f.no_text)) }
 {
@@ -79,7 +84,7 @@ pub fn write_no_text(alloc: Global, line: u32, text: &mut String) -> Result<(), 
 }
 
 /// Writes that `bp.sync` stands at the top level.
-pub fn write_top_sync(alloc: Global, line: u32, text: &mut String) -> Result<(), Memory>
+pub(crate) fn write_top_sync(alloc: Global, line: u32, text: &mut String) -> Result<(), Memory>
     ensures { OnOk result (string_bytes text.new
         ≡ string_bytes text.old ++ findings_text (one line f.top_sync)) }
 {
@@ -92,7 +97,7 @@ pub fn write_top_sync(alloc: Global, line: u32, text: &mut String) -> Result<(),
 }
 
 /// Writes that a division leaves a rest.
-pub fn write_has_rest(alloc: Global, line: u32, text: &mut String) -> Result<(), Memory>
+pub(crate) fn write_has_rest(alloc: Global, line: u32, text: &mut String) -> Result<(), Memory>
     ensures { OnOk result (string_bytes text.new
         ≡ string_bytes text.old ++ findings_text (one line f.has_rest)) }
 {
@@ -105,7 +110,7 @@ pub fn write_has_rest(alloc: Global, line: u32, text: &mut String) -> Result<(),
 }
 
 /// Writes that a division is by zero.
-pub fn write_by_zero(alloc: Global, line: u32, text: &mut String) -> Result<(), Memory>
+pub(crate) fn write_by_zero(alloc: Global, line: u32, text: &mut String) -> Result<(), Memory>
     ensures { OnOk result (string_bytes text.new
         ≡ string_bytes text.old ++ findings_text (one line f.by_zero)) }
 {
@@ -113,7 +118,7 @@ pub fn write_by_zero(alloc: Global, line: u32, text: &mut String) -> Result<(), 
 }
 
 /// Writes that most strategies ignore a priority.
-pub fn write_has_priority(alloc: Global, line: u32, text: &mut String) -> Result<(), Memory>
+pub(crate) fn write_has_priority(alloc: Global, line: u32, text: &mut String) -> Result<(), Memory>
     ensures { OnOk result (string_bytes text.new
         ≡ string_bytes text.old ++ findings_text (one line f.has_priority)) }
 {

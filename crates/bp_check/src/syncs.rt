@@ -205,7 +205,7 @@ fn write_assert(
 }
 
 /// Writes what is found of a form of `bp`.
-pub fn write_form(
+pub(crate) fn write_form(
     alloc: Global,
     program: &Program,
     is_at_top: bool,

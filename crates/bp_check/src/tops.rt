@@ -3,7 +3,8 @@ ghost use Rattle.std.specs.Prelude.{◌≡◌, ℕ, ◌<◌, ◌||◌, ◌+◌, 
 ghost use Rattle.std.specs.List.{filter_map};
 ghost use Rattle.js_program.specs.PlainProgram.{PlainDeclared, parts_of, content_parts};
 ghost use Rattle.js_program.specs.Views.{plain_node_form, plain_content, plain_declared};
-ghost use Rattle.bp_check.specs.Tops.{has, numbers_in, top_numbers, Marks};
+ghost use Rattle.bp_check.specs.Tops.{has, numbers_in, top_numbers};
+ghost use Rattle.bp_check.specs.inner.Marks.{Marks};
 
 use js_data::Memory;
 use js_program::{Content, Declared, NodeForm, Program};
@@ -142,7 +143,7 @@ fn mark_tops(marks: &mut [bool], program: &Program)
 }
 
 /// For each node, whether it is one of the top level.
-pub fn top_marks(alloc: Global, program: &Program) -> Result<Vec<bool>, Memory>
+pub(crate) fn top_marks(alloc: Global, program: &Program) -> Result<Vec<bool>, Memory>
     ensures many { IfOk result (λ v. length v.items ≡ length program.now.nodes) }
     ensures marks { IfOk result (λ v. Marks v.items (top_numbers program.now)) }
 {

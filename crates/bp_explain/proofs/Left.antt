@@ -12,7 +12,7 @@ use Rattle.bp_run.specs.Selecting.{Live}
 use Rattle.bp_run.specs.Choosing.{Choice, chosen, drawn_of, is_first_of, remaining}
 use Rattle.bp_explain.specs.declared.stops.Stop.{Stop}
 use Rattle.bp_explain.specs.Stops.{live_of}
-use Rattle.bp_explain.specs.Reasons.{event_drawn, leaves}
+use Rattle.bp_explain.specs.inner.Leaving.{event_drawn, leaves}
 
 all_kept : (es : List PlainEvent) → filter (λ e. true) es ≡ es
 all_kept [] = refl

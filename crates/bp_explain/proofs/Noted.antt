@@ -7,7 +7,8 @@ use Rattle.js_data.proofs.Shared.{drop_is}
 use Rattle.bp_run.specs.Selecting.{candidates, distinct}
 use Rattle.bp_select.proofs.Gathered.{gathered}
 use Rattle.bp_explain.specs.declared.stops.Stop.{Stop}
-use Rattle.bp_explain.specs.Stops.{live_of, with_new, with_all}
+use Rattle.bp_explain.specs.Stops.{live_of}
+use Rattle.bp_explain.specs.inner.Lists.{with_new, with_all}
 
 abbrev pub asked_in : List Stop → List PlainEvent
 asked_in ss = flat_map (λ s. (live_of s).statement.request) ss

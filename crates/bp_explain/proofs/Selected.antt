@@ -143,24 +143,25 @@ numbered : {Set : Type 0} (p : Live Set → Bool) (t : Live Set) (ts : List (Liv
 numbered p t ts true h = rw h refl
 numbered p t ts false h = rw h refl
 
-pub moved_are : {Set : Type 0} (has : Has Set) (e : PlainEvent) (ts : List (Live Set)) (reached : List Touched) → reach has e ts ≡ Ok reached → filter_map move_of reached ≡ map (λ t. t.number) (filter (moves has e) ts)
+-- those that are picked out of what is reached, by number, where this is so of each b-thread
+reached_are : {Set : Type 0} (has : Has Set) (e : PlainEvent) (pick : Touched → Option ℕ) (p : Live Set → Bool) →
+    ((t : Live Set) (o : Option Touched) (rest : List Touched) → touched has e t ≡ Ok o → filter_map pick (cons_option o rest) ≡ if_so t.number (p t) (filter_map pick rest)) →
+    (ts : List (Live Set)) (reached : List Touched) → reach has e ts ≡ Ok reached → filter_map pick reached ≡ map (λ t. t.number) (filter p ts)
 unfolding reach
-moved_are has e [] reached h = let k : [] ≡ reached = cc in ap (filter_map move_of) (sym k)
-moved_are has e (t ∷ ts) reached h =
+reached_are has e pick p one [] reached h = let k : [] ≡ reached = cc in ap (filter_map pick) (sym k)
+reached_are has e pick p one (t ∷ ts) reached h =
     let w = are_both (touched has e t) (reach has e ts) reached h in
-    let st = t.statement in
-    ap (filter_map move_of) w.reached_is
-    ∙ moved_by t.number (has st.interrupt e) (requests e t) (has st.wait_for e) w.first w.later w.first_is
-    ∙ ap (if_so t.number (moves has e t)) (moved_are has e ts w.later w.later_is)
-    ∙ numbered (moves has e) t ts (moves has e t) refl
+    ap (filter_map pick) w.reached_is
+    ∙ one t w.first w.later w.first_is
+    ∙ ap (if_so t.number (p t)) (reached_are has e pick p one ts w.later w.later_is)
+    ∙ numbered p t ts (p t) refl
+
+pub moved_are : {Set : Type 0} (has : Has Set) (e : PlainEvent) (ts : List (Live Set)) (reached : List Touched) → reach has e ts ≡ Ok reached → filter_map move_of reached ≡ map (λ t. t.number) (filter (moves has e) ts)
+moved_are has e ts reached h =
+    reached_are has e move_of (moves has e)
+    (λ t o rest k. moved_by t.number (has t.statement.interrupt e) (requests e t) (has t.statement.wait_for e) o rest k) ts reached h
 
 pub interrupted_are : {Set : Type 0} (has : Has Set) (e : PlainEvent) (ts : List (Live Set)) (reached : List Touched) → reach has e ts ≡ Ok reached → filter_map interrupt_of reached ≡ map (λ t. t.number) (filter (interrupts has e) ts)
-unfolding reach
-interrupted_are has e [] reached h = let k : [] ≡ reached = cc in ap (filter_map interrupt_of) (sym k)
-interrupted_are has e (t ∷ ts) reached h =
-    let w = are_both (touched has e t) (reach has e ts) reached h in
-    let st = t.statement in
-    ap (filter_map interrupt_of) w.reached_is
-    ∙ interrupted_by t.number (has st.interrupt e) (requests e t) (has st.wait_for e) w.first w.later w.first_is
-    ∙ ap (if_so t.number (interrupts has e t)) (interrupted_are has e ts w.later w.later_is)
-    ∙ numbered (interrupts has e) t ts (interrupts has e t) refl
+interrupted_are has e ts reached h =
+    reached_are has e interrupt_of (interrupts has e)
+    (λ t o rest k. interrupted_by t.number (has t.statement.interrupt e) (requests e t) (has t.statement.wait_for e) o rest k) ts reached h

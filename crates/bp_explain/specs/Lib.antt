@@ -10,3 +10,4 @@ pub mod Explained
 pub mod Whys
 pub mod Reasons
 pub mod Seeds
+pub mod inner

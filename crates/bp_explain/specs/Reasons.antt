@@ -1,14 +1,12 @@
 -- What is said of a selection, and of an event that is asked about, over the b-threads as the code
 -- has them.
-use Rattle.std.specs.Prelude.{ℕ, Bool, true, List, [], ◌∷◌, ◌++◌, map, filter, take, flat_map, Option, Some, None, option_map, codes}
-use Rattle.std.specs.List.{list_any}
+use Rattle.std.specs.Prelude.{ℕ, List, [], ◌∷◌, ◌++◌, map, filter, take, flat_map, Option, Some, None, codes}
 use Rattle.js_data.specs.Event.{PlainEvent}
 use Rattle.js_data.specs.JsonText.{quoted_text, event_text}
 use Rattle.js_value.specs.Value.{PlainSet}
 use Rattle.bp_log.specs.declared.options.Strategy.{Strategy}
-use Rattle.bp_log.specs.declared.options.Strategy.TheVariants.{Simple, Ordered, Priority}
 use Rattle.bp_run.specs.Selecting.{Has, candidates}
-use Rattle.bp_run.specs.Choosing.{drawn_of, is_first_of, is_greatest, remaining}
+use Rattle.bp_run.specs.Choosing.{remaining}
 use Rattle.bp_explain.specs.declared.stops.Stop.{Stop}
 use Rattle.bp_explain.specs.Reaching.{interrupts, moves}
 use Rattle.bp_explain.specs.Listed.{listed}
@@ -21,12 +19,6 @@ moved_names has ss e = map name_of (filter (λ s. moves has e (live_of s)) ss)
 
 abbrev pub interrupted_names : Has PlainSet → List Stop → PlainEvent → List (List ℕ)
 interrupted_names has ss e = map name_of (filter (λ s. interrupts has e (live_of s)) ss)
-
--- whether the strategy leaves e
-abbrev pub leaves : Strategy → List Stop → List PlainEvent → PlainEvent → Bool
-leaves Simple ss inner e = true
-leaves Ordered ss inner e = list_any (λ s. is_first_of inner e (live_of s)) ss
-leaves Priority ss inner e = is_greatest (map live_of ss) inner e
 
 -- a word and names after it, in a line or as one; nothing where there are no names
 abbrev pub with_words : List ℕ → List (List ℕ) → List ℕ
@@ -54,10 +46,6 @@ abbrev pub left_lines : (ℕ → ℕ) → Strategy → List Stop → List PlainE
 left_lines word strategy ss inner drawn =
     let left = remaining strategy (map live_of ss) inner in
     left_text strategy left ++ drawn_text word drawn left
-
--- the event on which the word falls
-abbrev pub event_drawn : (ℕ → ℕ) → ℕ → List PlainEvent → Option PlainEvent
-event_drawn word drawn left = option_map (λ ch. ch.event) (drawn_of word drawn left)
 
 abbrev pub reached_lines : Has PlainSet → List Stop → PlainEvent → List ℕ
 reached_lines has ss e =

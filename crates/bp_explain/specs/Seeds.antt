@@ -42,11 +42,18 @@ pub record Counted : Type 0 where
   pub count : ℕ
   pub first : ℕ
 
--- one more end, of this seed: kinds stand in the order in which they came first
+-- as many more of a kind: a kind that is known keeps its place and its first seed, so kinds stand in
+-- the order in which they came first
+abbrev pub count_more : Counted → List Counted → List Counted
+count_more e [] = e ∷ []
+count_more e (x ∷ xs) =
+    if bytes_eq x.kind e.kind
+    then record x { count = x.count + e.count } ∷ xs
+    else x ∷ count_more e xs
+
+-- one end more, of this seed
 abbrev pub count_one : ℕ × List ℕ → List Counted → List Counted
-count_one e [] = record { kind = e.1; count = 1; first = e.0 } ∷ []
-count_one e (x ∷ xs) =
-    if bytes_eq x.kind e.1 then record x { count = x.count + 1 } ∷ xs else x ∷ count_one e xs
+count_one e xs = count_more (record { kind = e.1; count = 1; first = e.0 }) xs
 
 abbrev pub count_all : List (ℕ × List ℕ) → List Counted → List Counted
 count_all [] counted = counted

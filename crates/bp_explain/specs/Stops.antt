@@ -1,8 +1,6 @@
 -- The b-threads that stand at a `bp.sync`, as the code has them, and what is said of them.
-use Rattle.std.specs.Borrow.{Bor}
-use Rattle.std.specs.Prelude.{ℕ, Bool, List, [], ◌∷◌, ◌++◌, map, filter, fold, flat_map, codes, if◌then◌else◌}
-use Rattle.std.specs.List.{list_any}
-use Rattle.js_data.specs.Event.{PlainEvent, same_event}
+use Rattle.std.specs.Prelude.{ℕ, Bool, List, [], ◌++◌, map, filter, flat_map, codes, if◌then◌else◌}
+use Rattle.js_data.specs.Event.{PlainEvent}
 use Rattle.js_data.specs.JsonText.{quoted_text, event_text}
 use Rattle.js_value.specs.Value.{PlainSet}
 use Rattle.bp_run.specs.Selecting.{Has, Live, candidates, requests}
@@ -23,17 +21,6 @@ standing_of s =
 
 abbrev pub name_of : Stop → List ℕ
 name_of s = s.name.now
-
--- what is referred to
-abbrev pub texts_in : List (Bor (List ℕ)) → List (List ℕ)
-texts_in ts = map (λ t. t.now) ts
-
--- e at the end, unless it is there
-abbrev pub with_new : List PlainEvent → PlainEvent → List PlainEvent
-with_new xs e = if list_any (same_event e) xs then xs else xs ++ e ∷ []
-
-abbrev pub with_all : List PlainEvent → List PlainEvent → List PlainEvent
-with_all xs es = fold with_new xs es
 
 abbrev pub is_blocker : Has PlainSet → PlainEvent → Stop → Bool
 is_blocker has e s = says_yes (has (plain_statement s.statement.now).block e)

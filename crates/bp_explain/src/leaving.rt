@@ -3,7 +3,7 @@ ghost use Rattle.std.specs.Prelude.{◌≡◌, map, IfOk};
 ghost use Rattle.std.specs.List.{list_any};
 ghost use Rattle.bp_run.specs.Choosing.{at_most, greater, is_first_of, is_greatest, priority_of, remaining};
 ghost use Rattle.bp_explain.specs.Stops.{live_of};
-ghost use Rattle.bp_explain.specs.Reasons.{leaves};
+ghost use Rattle.bp_explain.specs.inner.Leaving.{leaves};
 
 use crate::stops::{Stop, is_among, is_requester, put};
 use bp_log::Strategy;

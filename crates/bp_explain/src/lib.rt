@@ -13,8 +13,6 @@ mod whys;
 
 pub use reaching::Scene;
 pub use rest::{Rest, write_rest};
-pub use sets::write_set;
-pub use standing::write_standing;
-pub use stops::{Stop, blockers, candidates, requesters};
+pub use stops::Stop;
 pub use subject::Subject;
 pub use whys::{Draws, write_asked, write_selection};

@@ -2,7 +2,8 @@
 ghost use Rattle.std.specs.Prelude.{◌≡◌, IfOk};
 ghost use Rattle.js_frames.specs.Places.{plain_ground};
 ghost use Rattle.bp_meaning.specs.Membership.{member};
-ghost use Rattle.bp_explain.specs.Stops.{live_of, texts_in};
+ghost use Rattle.bp_explain.specs.Stops.{live_of};
+ghost use Rattle.bp_explain.specs.inner.Lists.{texts_in};
 ghost use Rattle.bp_explain.specs.Reaching.{interrupts, moves};
 ghost use Rattle.bp_explain.specs.Reasons.{interrupted_names, moved_names};
 

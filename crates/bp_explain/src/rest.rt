@@ -7,7 +7,8 @@ ghost use Rattle.bp_explain.specs.Listed.{listed};
 ghost use Rattle.bp_explain.specs.Sets.{spelling_of};
 ghost use Rattle.bp_explain.specs.Standing.{standing_text};
 ghost use Rattle.bp_explain.specs.States.{waiting_text, reading_text};
-ghost use Rattle.bp_explain.specs.Stops.{blocked_by, blocked_line, blocker_names, each_line, request_line, requester_names, rest_lines, standing_of, stuck_lines, texts_in, waiting_line};
+ghost use Rattle.bp_explain.specs.Stops.{blocked_by, blocked_line, blocker_names, each_line, request_line, requester_names, rest_lines, standing_of, stuck_lines, waiting_line};
+ghost use Rattle.bp_explain.specs.inner.Lists.{texts_in};
 
 use crate::sets::write_event;
 use crate::standing::write_standing;

@@ -64,7 +64,7 @@ fn write_two(
 /// Writes a set in words after the text: an event as its text, a list in brackets, a predicate by
 /// its name and the line of its function.
 #[cycle(words)]
-pub fn write_set(
+pub(crate) fn write_set(
     alloc: Global,
     program: &Program,
     set: &EventSet,

@@ -119,7 +119,7 @@ fn write_statement(
 /// Writes where a b-thread stands after the text: its name, the line of its stop, and what it states
 /// there.
 #[tactic(auto, unfolding(crate::specs::Standing::standing_text))]
-pub fn write_standing(
+pub(crate) fn write_standing(
     alloc: Global,
     program: &Program,
     name: &Text,

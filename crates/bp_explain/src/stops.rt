@@ -8,7 +8,8 @@ ghost use Rattle.bp_run.specs.Selecting.{candidates, requests};
 ghost use Rattle.bp_sets.specs.Answers.{TellsAs};
 ghost use Rattle.bp_thread.specs.Views.{stated_set};
 ghost use Rattle.bp_explain.specs.Blocking.{says_yes};
-ghost use Rattle.bp_explain.specs.Stops.{blocker_names, live_of, requester_names, texts_in, with_all, with_new};
+ghost use Rattle.bp_explain.specs.Stops.{blocker_names, live_of, requester_names};
+ghost use Rattle.bp_explain.specs.inner.Lists.{texts_in, with_all, with_new};
 
 use bp_sets::{SetFault, contains};
 use bp_thread::Statement;
@@ -61,7 +62,7 @@ pub(crate) fn has(
 }
 
 /// The names of all who block the event, in the order of registration.
-pub fn blockers<'a>(
+pub(crate) fn blockers<'a>(
     alloc: Global,
     ground: &Ground,
     budget: u64,
@@ -92,7 +93,7 @@ pub(crate) fn is_requester(stop: &Stop<'_>, event: &Event) -> bool
 }
 
 /// The names of all who request the event, in the order of registration.
-pub fn requesters<'a>(
+pub(crate) fn requesters<'a>(
     alloc: Global,
     stops: &[Stop<'a>],
     event: &Event,
@@ -146,7 +147,7 @@ fn note_all(events: &mut Vec<Event>, stop: &Stop<'_>) -> Result<(), Memory>
 }
 
 /// The events that are requested, each once, in the order in which they first appear.
-pub fn candidates(alloc: Global, stops: &[Stop<'_>]) -> Result<Vec<Event>, Memory>
+pub(crate) fn candidates(alloc: Global, stops: &[Stop<'_>]) -> Result<Vec<Event>, Memory>
     ensures { IfOk result (λ l. l.items ≡ candidates (map live_of stops.now)) }
 {
     let mut events = Vec::new(alloc);

@@ -5,9 +5,11 @@ ghost use Rattle.js_frames.specs.Places.{plain_ground};
 ghost use Rattle.bp_draw.specs.Words.{draw_word};
 ghost use Rattle.bp_meaning.specs.Membership.{member};
 ghost use Rattle.bp_run.specs.Choosing.{Choice, chosen, remaining};
-ghost use Rattle.bp_explain.specs.Stops.{blocker_names, live_of, requester_names, texts_in};
+ghost use Rattle.bp_explain.specs.Stops.{blocker_names, live_of, requester_names};
+ghost use Rattle.bp_explain.specs.inner.Lists.{texts_in};
 ghost use Rattle.bp_explain.specs.Whys.{drawn_text, left_text};
-ghost use Rattle.bp_explain.specs.Reasons.{asked_line, blocked_words, candidate_line, candidate_lines, event_drawn, held_words, interrupted_names, left_lines, listed_or_nobody, moved_names, names_line, passed_line, passed_lines, reached_lines, selected_from, selected_lines, why_lines, with_words};
+ghost use Rattle.bp_explain.specs.Reasons.{asked_line, blocked_words, candidate_line, candidate_lines, held_words, interrupted_names, left_lines, listed_or_nobody, moved_names, names_line, passed_line, passed_lines, reached_lines, selected_from, selected_lines, why_lines, with_words};
+ghost use Rattle.bp_explain.specs.inner.Leaving.{event_drawn};
 
 use crate::leaving::left_of;
 use crate::reaching::{Scene, interrupted, moved};

@@ -1,11 +1,11 @@
 -- Counts of two ranges of seeds are those of one range.
-use Rattle.std.proofs.Common.{◌≡◌, ◌∙◌, ℕ, zero, suc, ◌+◌, ◌≤◌, Bool, true, false, List, [], ◌∷◌, ◌++◌, length, length-append, Option, Some, None, refl, sym, ap, arith, subst}
+use Rattle.std.proofs.Common.{◌≡◌, ◌∙◌, ℕ, zero, suc, ◌+◌, ◌≤◌, Bool, true, false, List, [], ◌∷◌, ◌++◌, length, Option, Some, None, refl, sym, ap, arith, subst}
 use Rattle.std.specs.Prelude.{if◌then◌else◌, ◌||◌}
 use Rattle.std.specs.Str.{bytes_eq}
 use Rattle.std.specs.List.{list_any}
 use Rattle.std.proofs.lemmas.Slice.Eq.{bytes_eq-Decides}
-use Rattle.bp_explain.specs.Seeds.{Counted, count_one, count_all, ends_from}
-use Rattle.bp_seeds.specs.Merged.{count_more, merged, total, counts_from}
+use Rattle.bp_explain.specs.Seeds.{Counted, count_more, count_one, count_all, ends_from}
+use Rattle.bp_seeds.specs.inner.Merged.{merged, total, counts_from}
 
 abbrev pub one : ℕ × List ℕ → Counted
 one e = record { kind = e.1; count = 1; first = e.0 }
@@ -17,11 +17,6 @@ more n x = record x { count = x.count + n }
 pub more_at : (e x : Counted) (xs : List Counted) (b : Bool) → bytes_eq x.kind e.kind ≡ b →
     count_more e (x ∷ xs) ≡ (if b then more e.count x ∷ xs else x ∷ count_more e xs)
 more_at e x xs b h = ap (λ (c : Bool). if c then more e.count x ∷ xs else x ∷ count_more e xs) h
-
-pub one_is_more : (e : ℕ × List ℕ) (xs : List Counted) → count_one e xs ≡ count_more (one e) xs
-one_is_more e [] = refl
-one_is_more e (x ∷ xs) =
-    ap (λ (ys : List Counted). if bytes_eq x.kind e.1 then more 1 x ∷ xs else x ∷ ys) (one_is_more e xs)
 
 abbrev has : List ℕ → List Counted → Bool
 has kind xs = list_any (λ x. bytes_eq x.kind kind) xs
@@ -119,7 +114,7 @@ merged_more d xs [] = refl
 merged_more d xs (y ∷ ys) = merged_more_by d xs y ys (bytes_eq y.kind d.kind) refl (merged_more d (count_more y xs) ys)
 
 merged_one : (e : ℕ × List ℕ) (xs ys : List Counted) → merged xs (count_one e ys) ≡ count_one e (merged xs ys)
-merged_one e xs ys = ap (merged xs) (one_is_more e ys) ∙ merged_more (one e) xs ys ∙ sym (one_is_more e (merged xs ys))
+merged_one e xs ys = merged_more (one e) xs ys
 
 -- ends that are counted to others, before or after the merging
 merged_all : (es : List (ℕ × List ℕ)) (xs ys : List Counted) → merged xs (count_all es ys) ≡ count_all es (merged xs ys)
@@ -185,7 +180,9 @@ total_more e (x ∷ xs) = total_more_by e x xs (bytes_eq x.kind e.kind) refl (to
 
 total_all : (es : List (ℕ × List ℕ)) (xs : List Counted) → total (count_all es xs) ≡ total xs + length es
 total_all [] xs = omega arith
-total_all (e ∷ es) xs = total_all es (count_one e xs) ∙ omega (arith, ap total (one_is_more e xs), total_more (one e) xs)
+total_all (e ∷ es) xs =
+    let more : total (count_one e xs) ≡ total xs + 1 = total_more (one e) xs in
+    total_all es (count_one e xs) ∙ omega (arith, more)
 
 onto_length : (seed : ℕ) (es : List (ℕ × List ℕ)) (n : ℕ) (k : Option (List ℕ)) → length es ≤ n → length (onto seed es k) ≤ n + 1
 onto_length seed es n None h = omega (arith, h)

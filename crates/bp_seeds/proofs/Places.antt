@@ -1,12 +1,12 @@
 -- Where a kind stands among counts.
-use Rattle.std.proofs.Common.{◌≡◌, ◌∙◌, ℕ, zero, suc, ◌+◌, ◌<◌, ◌≤◌, Bool, true, false, List, [], ◌∷◌, ◌++◌, length, drop, Option, Some, None, refl, sym, ap, subst, arith}
+use Rattle.std.proofs.Common.{◌≡◌, ◌∙◌, ℕ, suc, ◌+◌, ◌<◌, ◌≤◌, Bool, true, false, List, [], ◌∷◌, ◌++◌, length, drop, Option, Some, None, refl, sym, ap, subst, arith}
 use Rattle.std.specs.Prelude.{if◌then◌else◌, slice_get, slice_index_or, slice_set, option_map}
 use Rattle.std.specs.Str.{bytes_eq}
 use Rattle.std.proofs.Math.ListN.{drop_of_length-le}
 use Rattle.std.proofs.Math.Seq.{drop-cons}
 use Rattle.std.proofs.lemmas.Option.{slice_get_within, get_or_from_slice_get, slice_get-get_or}
-use Rattle.bp_explain.specs.Seeds.{Counted}
-use Rattle.bp_seeds.specs.Merged.{count_more, place_of, total}
+use Rattle.bp_explain.specs.Seeds.{Counted, count_more}
+use Rattle.bp_seeds.specs.inner.Merged.{place_of, total}
 use Rattle.bp_seeds.proofs.Merging.{more, more_at}
 
 place_at : (kind : List ℕ) (x : Counted) (xs : List Counted) (b : Bool) → bytes_eq x.kind kind ≡ b →

@@ -1,6 +1,6 @@
 -- Runs without injectors, which are moved on to their ends.
-use Rattle.std.proofs.Common.{◌≡◌, ◌∙◌, ℕ, ◌+◌, ◌-◌, ◌<◌, ◌≤◌, Bool, true, false, nat_lt, List, [], ◌∷◌, ◌++◌, length, length-append, Some, None, refl, sym, ap, arith}
-use Rattle.std.specs.Prelude.{Option, option_map, option_and_then, option_to_list}
+use Rattle.std.proofs.Common.{◌≡◌, ◌∙◌, ◌+◌, ◌-◌, ◌≤◌, Bool, true, false, nat_lt, List, [], ◌∷◌, ◌++◌, length, length-append, Some, refl, sym, ap, arith}
+use Rattle.std.specs.Prelude.{option_map, option_and_then, option_to_list}
 use Rattle.js_value.specs.Value.{PlainSet}
 use Rattle.js_program.specs.PlainProgram.{PlainProgram}
 use Rattle.js_meaning.specs.Bodies.{Origin}
@@ -12,18 +12,17 @@ use Rattle.bp_log.specs.declared.verdict.Verdict.{Verdict}
 use Rattle.bp_run.specs.Bodies.{Code}
 use Rattle.bp_run.specs.Configuration.{Configuration, not_ended}
 use Rattle.bp_run.specs.Settling.{Entry, Pair, opening}
-use Rattle.bp_run.specs.Story.{Next, story, alone, next, record_of}
+use Rattle.bp_run.specs.Story.{Next, story, alone, record_of}
 use Rattle.bp_run.specs.Story.Next.{Ends, Selects, Waits}
 use Rattle.bp_run.proofs.Stories.{begins_alone, only_alone}
 use Rattle.bp_run.proofs.Injectors.{verdict_told}
 use Rattle.bp_run.proofs.Waiting.{story_same, alone_same, only_waiting_runs_wait}
 use Rattle.bp_code.specs.Code as whole
 use Rattle.bp_code.specs.Code.{sealed_code_of as code_of}
-use Rattle.bp_floor.specs.declared.phase.Phase.{Phase}
-use Rattle.bp_floor.specs.declared.phase.Phase.TheVariants.{Ready, Lent, Rest, Over}
+use Rattle.bp_floor.specs.declared.phase.Phase.TheVariants.{Over}
 use Rattle.bp_arbiter.specs.declared.picked.Picked.{Picked}
 use Rattle.bp_arbiter.specs.declared.picked.Picked.TheVariants as picked
-use Rattle.bp_arbiter.specs.Arbiters.{PlainArbiter, opened, code_in, options_in, stand_in, Recounts, coming, StandsFor, StandsSomewhere, is_lent, is_over, Shows}
+use Rattle.bp_arbiter.specs.Arbiters.{PlainArbiter, opened, code_in, options_in, stand_in, Recounts, coming, StandsFor, StandsSomewhere, is_lent, Shows}
 use Rattle.bp_arbiter.specs.Pick.{after_pick, phase_after}
 use Rattle.bp_turns.specs.Turning.{Settles}
 use Rattle.bp_turns.proofs.Arbiters.{same_code, recounts_at, coming_at}

@@ -1,15 +1,16 @@
 -- Parts of a sweep, and their counts.
-use Rattle.std.proofs.Common.{◌≡◌, ◌∙◌, ℕ, zero, suc, ◌+◌, ◌-◌, ◌*◌, ◌≤◌, ◌<◌, ◌^◌, List, [], ◌∷◌, ◌++◌, length, length-append, Some, Ok, Err, IfOk, Option, refl, sym, ap, subst, arith}
+use Rattle.std.proofs.Common.{◌≡◌, ◌∙◌, ℕ, ◌+◌, ◌-◌, ◌*◌, ◌≤◌, ◌<◌, ◌^◌, List, [], ◌∷◌, ◌++◌, length, length-append, Ok, Err, IfOk, Option, refl, sym, ap, subst, arith}
 use Rattle.std.specs.Prelude.{min, slice_index_or, flat_map, Result}
 use Rattle.js_program.specs.PlainProgram.{PlainProgram}
 use Rattle.bp_log.specs.Options.{PlainOptions}
 use Rattle.bp_seeds.specs.declared.sweep.Sweep.{Sweep}
 use Rattle.bp_script.specs.Programs.{IsProgram}
-use Rattle.bp_explain.specs.Seeds.{Counted, counted_text, seeds_text, seeds_of, under_seed}
-use Rattle.bp_seeds.specs.Merged.{count_more, merged, total, counts_from}
-use Rattle.bp_seeds.specs.Ends.{HasProgram, IsKind}
-use Rattle.bp_seeds.specs.Sweeps.{AreCounts, before, ArePart, IsSweep}
-use Rattle.bp_seeds.proofs.Merging.{counts_append, counts_next, total_counts, total_merged, total_more}
+use Rattle.bp_explain.specs.Seeds.{Counted, count_more, counted_text, seeds_text, seeds_of, under_seed}
+use Rattle.bp_seeds.specs.Sweeps.{HasProgram, IsSweep}
+use Rattle.bp_seeds.specs.inner.Merged.{merged, total, counts_from}
+use Rattle.bp_seeds.specs.inner.Ends.{IsKind}
+use Rattle.bp_seeds.specs.inner.Parts.{AreCounts, before, ArePart}
+use Rattle.bp_seeds.proofs.Merging.{counts_append, counts_next, total_counts}
 
 -- no more are counted than there are seeds
 pub few_counts : (bytes : List ℕ) (o : PlainOptions) (many seed : ℕ) (counts : List Counted) → HasProgram bytes → AreCounts bytes o many seed counts → total counts ≤ many

@@ -2,7 +2,6 @@
 use Rattle.std.proofs.Common.{◌≡◌, ◌∙◌, ℕ, suc, ◌+◌, ◌<◌, List, ◌∷◌, ◌++◌, length, drop, refl, ap, arith}
 use Rattle.std.specs.Prelude.{flat_map, slice_index_or}
 use Rattle.std.proofs.Math.Seq.{drop-cons}
-use Rattle.std.proofs.lemmas.Grind.{flat_map-append}
 use Rattle.bp_explain.specs.Seeds.{Counted, counted_text}
 
 told_cons : (x : Counted) (xs : List Counted) → flat_map counted_text (x ∷ xs) ≡ counted_text x ++ flat_map counted_text xs

@@ -1,3 +1,2 @@
-pub mod Ends
-pub mod Merged
 pub mod Sweeps
+pub mod inner

@@ -1,30 +1,15 @@
--- Runs under many seeds, in parts.
-use Rattle.std.specs.Prelude.{◌≡◌, ◌≤◌, ◌<◌, ℕ, ◌+◌, ◌-◌, ◌*◌, ◌^◌, min, List}
+-- Runs of a program under many seeds.
+use Rattle.std.specs.Prelude.{◌≡◌, ◌≤◌, ◌<◌, ℕ, ◌+◌, ◌^◌, List}
 use Rattle.js_program.specs.PlainProgram.{PlainProgram}
-use Rattle.bp_log.specs.Options.{PlainOptions}
 use Rattle.bp_script.specs.Programs.{IsProgram}
 use Rattle.bp_seeds.specs.declared.sweep.Sweep.{Sweep}
-use Rattle.bp_explain.specs.Seeds.{Counted, under_seed}
-use Rattle.bp_seeds.specs.Merged.{counts_from}
+
+-- the bytes are a program
+abbrev pub HasProgram : List ℕ → Type 0
+HasProgram bytes = (program : PlainProgram) × IsProgram bytes program
 
 -- the number of seeds is one of 32 bits, each seed one of 64, and the runs have no injectors
 pub record IsSweep (s : Sweep) : Type 0 where
   pub few : s.count < 2 ^ 32
   pub last : s.first + s.count ≤ 2 ^ 64
   pub alone : s.options.injectors ≡ 0
-
--- how the runs of the program that the bytes are end under this many seeds from one on
-abbrev pub AreCounts : List ℕ → PlainOptions → ℕ → ℕ → List Counted → Type 0
-AreCounts bytes options many seed counts =
-    (program : PlainProgram) → IsProgram bytes program
-    → counts ≡ counts_from (under_seed program options) many seed
-
--- how many seeds stand before this part, of so many seeds in parts of this size
-abbrev pub before : ℕ → ℕ → ℕ → ℕ
-before count size part = min count (part * size)
-
--- the counts of this part
-abbrev pub ArePart : List ℕ → Sweep → ℕ → ℕ → List Counted → Type 0
-ArePart bytes s size part counts =
-    AreCounts bytes s.options (before s.count size (part + 1) - before s.count size part)
-    (s.first + before s.count size part) counts

@@ -1,7 +1,7 @@
 //! Ends by kind, with how many there are of each and the first seed that ends so.
-ghost use Rattle.std.specs.Prelude.{◌≡◌, ◌+◌, ◌<◌, ◌^◌, [], flat_map, map, string_bytes, IfOk, OnOk};
-ghost use Rattle.bp_explain.specs.Seeds.{counted_text};
-ghost use Rattle.bp_seeds.specs.Merged.{count_more, merged, total, place_of};
+ghost use Rattle.std.specs.Prelude.{◌≡◌, ◌+◌, ◌<◌, ◌^◌, [], flat_map, string_bytes, IfOk, OnOk};
+ghost use Rattle.bp_explain.specs.Seeds.{count_more, counted_text};
+ghost use Rattle.bp_seeds.specs.inner.Merged.{merged, total, place_of};
 
 use bp_log::Memory;
 use js_data::Text;

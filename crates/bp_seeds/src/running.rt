@@ -2,7 +2,8 @@
 ghost use Rattle.std.specs.Prelude.{◌≡◌, IfOk};
 ghost use Rattle.bp_script.specs.Programs.{IsProgram};
 ghost use Rattle.js_program.specs.PlainProgram.{PlainProgram};
-ghost use Rattle.bp_seeds.specs.Ends.{EndsSo, HasProgram, IsKind};
+ghost use Rattle.bp_seeds.specs.Sweeps.{HasProgram};
+ghost use Rattle.bp_seeds.specs.inner.Ends.{EndsSo, IsKind};
 
 use crate::ending::End;
 use bp_arbiter::{Arbiter, Phase};

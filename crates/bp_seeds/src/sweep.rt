@@ -3,9 +3,8 @@ ghost use Rattle.std.specs.Prelude.{◌≡◌, ◌+◌, ◌-◌, ◌*◌, ◌<�
 ghost use Rattle.js_program.specs.PlainProgram.{PlainProgram};
 ghost use Rattle.bp_script.specs.Programs.{IsProgram};
 ghost use Rattle.bp_explain.specs.Seeds.{seeds_of};
-ghost use Rattle.bp_seeds.specs.Ends.{HasProgram};
-ghost use Rattle.bp_seeds.specs.Merged.{total};
-ghost use Rattle.bp_seeds.specs.Sweeps.{IsSweep, AreCounts, before, ArePart};
+ghost use Rattle.bp_seeds.specs.Sweeps.{HasProgram, IsSweep};
+ghost use Rattle.bp_seeds.specs.inner.Parts.{AreCounts, before, ArePart};
 
 use crate::counts::{Counted, Counts};
 use crate::running::kind_under;

@@ -3,7 +3,7 @@ use Rattle.std.proofs.Common.{◌≡◌, ℕ, zero, suc, ◌<◌, List, [], ◌�
 use Rattle.std.specs.Prelude.{Option, Some, None, IsSome, IfSome}
 use Rattle.bp_base.specs.Worlds.{Holdings, Opens}
 use Rattle.bp_log.specs.declared.limits.TheConstants.{MOST_BYTES}
-use Rattle.bpx_cli.specs.Answers.{IsTooLong}
+use Rattle.bpx_cli.specs.inner.Loading.{IsTooLong}
 
 longer : (n : ℕ) → (bytes : List ℕ) × (n < length bytes)
 longer zero = (0 ∷ [], omega arith)

@@ -7,7 +7,8 @@ use Rattle.bp_reader.specs.declared.fault.LogFault.TheVariants as log
 use Rattle.bp_replay.specs.declared.fault.ReplayFault.TheVariants as replay
 use Rattle.bp_answers.specs.declared.answer.NoAnswer.{NoAnswer}
 use Rattle.bp_answers.specs.declared.answer.NoAnswer.TheVariants.{Refused, Absent}
-use Rattle.bpx_cli.specs.Logs.{About, IsSaidUnder, IsSaidOf, IsUnsaid, ended_of_log}
+use Rattle.bpx_cli.specs.Logs.{About, IsSaidUnder, IsSaidOf, IsUnsaid}
+use Rattle.bpx_cli.specs.inner.Ends.{ended_of_log}
 use Rattle.bpx_cli.specs.declared.ended.Reply.{Reply}
 use Rattle.bpx_cli.specs.declared.ended.Ended.{Ended}
 use Rattle.bpx_cli.specs.declared.ended.Ended.TheVariants.{Answered}

@@ -3,7 +3,8 @@ use Rattle.std.proofs.Common.{◌≡◌, ◌∙◌, ℕ, List, [], ◌∷◌, re
 use Rattle.js_program.specs.PlainProgram.{PlainProgram}
 use Rattle.bp_check.specs.Findings.{Finding, findings}
 use Rattle.bp_check.specs.Sentences.{findings_text, check_text}
-use Rattle.bpx_cli.specs.Answers.{checked, ended_by, IsChecked}
+use Rattle.bpx_cli.specs.Answers.{checked, IsChecked}
+use Rattle.bpx_cli.specs.inner.Ends.{ended_by}
 
 -- each finding has a line, so that something is printed where something is found
 pub found_is_told : (xs : List Finding) → ended_by (findings_text xs) ≡ checked xs

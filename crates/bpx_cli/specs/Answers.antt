@@ -1,8 +1,7 @@
 -- What `bpx` prints for what is asked, and how it ends.
-use Rattle.std.specs.Prelude.{◌≡◌, ◌⊎◌, ◌<◌, ℕ, List, [], ◌∷◌, Option, Some, None, IfSome, length}
+use Rattle.std.specs.Prelude.{◌≡◌, ◌⊎◌, ℕ, List, [], ◌∷◌, Option, Some, None, IfSome}
 use Rattle.bp_base.specs.Worlds.{Holdings}
 use Rattle.bp_base.specs.Pieces.{Appends, AppendsFront}
-use Rattle.bp_log.specs.declared.limits.TheConstants.{MOST_BYTES}
 use Rattle.js_program.specs.PlainProgram.{PlainProgram}
 use Rattle.bp_script.specs.declared.refusal.Refusal.{Refusal}
 use Rattle.bp_script.specs.Programs.{IsProgram, IsRefused}
@@ -28,27 +27,11 @@ pub record IsProgramOf (holds : Option Holdings) (name : List ℕ) (program : Pl
   pub under : IsUnder holds name bytes
   pub accepted : IsProgram bytes program
 
--- these bytes under the name are some program
-pub record IsScriptOf (holds : Option Holdings) (name bytes : List ℕ) : Type 0 where
-  pub under : IsUnder holds name bytes
-  pub program : PlainProgram
-  pub accepted : IsProgram bytes program
-
 -- the bytes under the name are refused so
 pub record IsRefusedOf (holds : Option Holdings) (name : List ℕ) (refusal : Refusal) : Type 0 where
   pub bytes : List ℕ
   pub under : IsUnder holds name bytes
   pub refused : IsRefused bytes refusal
-
--- the program of that name is too long
-abbrev pub IsTooLong : Option Holdings → List ℕ → Type 0
-IsTooLong holds name = (bytes : List ℕ) × IsUnder holds name bytes × (MOST_BYTES < length bytes)
-
--- why bytes are no accepted program: they are refused, or memory ran out
-abbrev pub AreUnaccepted : List ℕ → Ended → Type 0
-AreUnaccepted bytes (Refused refusal) = IsRefused bytes refusal
-AreUnaccepted bytes NoMemory = Unit {0}
-AreUnaccepted bytes _ = ⊥
 
 -- why there is not an accepted program of that name: it is refused, or was not read
 abbrev pub IsUnloaded : Option Holdings → List ℕ → Ended → Type 0
@@ -60,11 +43,6 @@ IsUnloaded holds name _ = ⊥
 abbrev pub checked : List Finding → Ended
 checked [] = Answered
 checked (x ∷ xs) = Found
-
--- where nothing is printed, nothing was found
-abbrev pub ended_by : List ℕ → Ended
-ended_by [] = Answered
-ended_by (b ∷ bs) = Found
 
 -- the text that answers a check of a program, and the end
 pub record IsChecked (program : PlainProgram) (text : List ℕ) (end : Ended) : Type 0 where
@@ -100,13 +78,15 @@ IsUnanswered holds (request.Why w) end = IsUnexplained holds w end
 IsUnanswered holds (request.Seeds s) end = IsUnloaded holds s.program end
 
 -- this was printed after what was, and answers what is asked
-pub record IsAnswered (holds : Option Holdings) (asked : Request) (before after : Option (List ℕ)) (end : Ended) : Type 0 where
+pub record IsAnswered (holds : Option Holdings) (asked : Request)
+    (before after : Option (List ℕ)) (end : Ended) : Type 0 where
   pub text : List ℕ
   pub answers : Answers holds asked text end
   pub printed : Appends before text after
 
 -- a front of what answers it was printed, and then printing failed
-pub record IsCut (holds : Option Holdings) (asked : Request) (before after : Option (List ℕ)) : Type 0 where
+pub record IsCut (holds : Option Holdings) (asked : Request)
+    (before after : Option (List ℕ)) : Type 0 where
   pub text : List ℕ
   pub end : Ended
   pub answers : Answers holds asked text end
@@ -118,9 +98,11 @@ EndsAs holds asked before after Answered = IsAnswered holds asked before after A
 EndsAs holds asked before after Found = IsAnswered holds asked before after Found
 EndsAs holds asked before after NotWritten = IsCut holds asked before after
 EndsAs holds asked before after NoCommand = ⊥
-EndsAs holds asked before after (Refused refusal) = (after ≡ before) × IsUnanswered holds asked (Refused refusal)
+EndsAs holds asked before after (Refused refusal) =
+    (after ≡ before) × IsUnanswered holds asked (Refused refusal)
 EndsAs holds asked before after Absent = (after ≡ before) × IsUnanswered holds asked Absent
-EndsAs holds asked before after (BadLog fault) = (after ≡ before) × IsUnanswered holds asked (BadLog fault)
+EndsAs holds asked before after (BadLog fault) =
+    (after ≡ before) × IsUnanswered holds asked (BadLog fault)
 EndsAs holds asked before after NotRead = (after ≡ before) × IsUnanswered holds asked NotRead
 EndsAs holds asked before after NoMemory = after ≡ before
 

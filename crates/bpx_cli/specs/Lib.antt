@@ -3,3 +3,4 @@ pub mod States
 pub mod Whys
 pub mod Answers
 pub mod Codes
+pub mod inner

@@ -1,5 +1,5 @@
 -- What is said of a log that the world holds, and how a command ends where nothing is said of it.
-use Rattle.std.specs.Prelude.{◌≡◌, ℕ, List, Option, Some, None, unwrap_or, String, string_bytes, Result, Ok, Err, IfSome, IsSomeAnd}
+use Rattle.std.specs.Prelude.{◌≡◌, ℕ, List, Option, Some, None, String, string_bytes, Result, Ok, Err, IfSome, IsSomeAnd}
 use Rattle.std.specs.declared.alloc.Global.{Global}
 use Rattle.bp_base.specs.Worlds.{Holdings}
 use Rattle.bp_reader.specs.declared.fault.LogFault.TheVariants as log
@@ -20,7 +20,8 @@ IsSaidUnder holds name about says =
     IfSome holds (λ held. IsSomeAnd (held name) (λ bytes. about bytes says))
 
 -- the text is what is said of that log
-pub record IsSaidOf (holds : Option Holdings) (name : List ℕ) (about : About) (text : List ℕ) : Type 0 where
+pub record IsSaidOf (holds : Option Holdings) (name : List ℕ) (about : About)
+    (text : List ℕ) : Type 0 where
   pub says : String Global
   pub is_text : text ≡ string_bytes says
   pub is_said : IsSaidUnder holds name about (Ok says)
@@ -31,11 +32,6 @@ trouble_of (replay.Log log.Read) = Some NotRead
 trouble_of (replay.Log log.Memory) = Some NoMemory
 trouble_of replay.Memory = Some NoMemory
 trouble_of _ = None
-
--- how a command ends to which this was answered
-abbrev pub ended_of_log : NoAnswer → Ended
-ended_of_log answer.Absent = Absent
-ended_of_log (answer.Refused f) = unwrap_or (trouble_of f) (BadLog f)
 
 -- why nothing is said: the log has not what is asked about, or is a bad one, or was not read, or memory ran out
 abbrev pub IsUnsaid : Option Holdings → List ℕ → About → Ended → Type 0

@@ -2,7 +2,8 @@
 ghost use Rattle.std.specs.Prelude.{◌≡◌, ◌≤◌, IsErrOf, IfOk, IfErr, map, string_bytes};
 ghost use Rattle.bp_base.specs.Counts.{Rose};
 ghost use Rattle.bpx_words.specs.Requests.{request_of};
-ghost use Rattle.bpx_cli.specs.Answers.{ended_by, Answers, IsUnanswered, IsUnloaded, IsChecked, IsCheckOf, EndsAs, Ends};
+ghost use Rattle.bpx_cli.specs.inner.Ends.{ended_by};
+ghost use Rattle.bpx_cli.specs.Answers.{Answers, IsUnanswered, IsUnloaded, IsChecked, IsCheckOf, EndsAs, Ends};
 
 use crate::ended::{Ended, Reply};
 use crate::loading::load;

@@ -2,7 +2,7 @@
 ghost use Rattle.std.specs.Prelude.{◌≡◌, ◌≤◌, ◌⊎◌, Ok, IsErrOf, IsErrAnd, IfOk, IfErr};
 ghost use Rattle.bp_base.specs.Counts.{Rose};
 ghost use Rattle.bp_base.specs.Worlds.{Opens};
-ghost use Rattle.bpx_cli.specs.Logs.{ended_of_log};
+ghost use Rattle.bpx_cli.specs.inner.Ends.{ended_of_log};
 
 use crate::ended::{Ended, Reply};
 use bp_answers::NoAnswer;

@@ -1,7 +1,8 @@
 //! How a command ends.
 ghost use Rattle.std.specs.Prelude.{◌≡◌, IfOk};
 ghost use Rattle.bpx_cli.specs.Codes.{code_of, note_of};
-ghost use Rattle.bpx_cli.specs.Logs.{ended_of_log, trouble_of};
+ghost use Rattle.bpx_cli.specs.inner.Ends.{ended_of_log};
+ghost use Rattle.bpx_cli.specs.Logs.{trouble_of};
 
 use bp_answers::NoAnswer;
 use bp_log::Memory;

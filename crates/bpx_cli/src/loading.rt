@@ -2,7 +2,8 @@
 ghost use Rattle.std.specs.Prelude.{◌≡◌, ◌≤◌, IsErrOf, IfOk, IfErr};
 ghost use Rattle.bp_base.specs.Counts.{Rose};
 ghost use Rattle.bp_script.specs.Programs.{IsProgram};
-ghost use Rattle.bpx_cli.specs.Answers.{IsUnder, IsProgramOf, IsScriptOf, IsTooLong, AreUnaccepted, IsUnloaded};
+ghost use Rattle.bpx_cli.specs.Answers.{IsUnder, IsProgramOf, IsUnloaded};
+ghost use Rattle.bpx_cli.specs.inner.Loading.{IsScriptOf, IsTooLong, AreUnaccepted};
 
 use crate::ended::Ended;
 use bp_base::{ReadError, World, WorldError, read_all};

@@ -24,7 +24,9 @@ subject_at word = option_or (selection_at word) (option_map subject.Event (event
 
 abbrev pub why_in : List (List ℕ) × List ℕ → Option Why
 why_in p =
-    option_and_then (λ log. option_map (λ s. record { log = log; subject = s }) (subject_at p.1)) (log_of p.0)
+    option_and_then
+    (λ log. option_map (λ s. record { log = log; subject = s }) (subject_at p.1))
+    (log_of p.0)
 
 -- of the log that the words before the last name, what the last asks about
 abbrev pub why_of : List (List ℕ) → Option Why

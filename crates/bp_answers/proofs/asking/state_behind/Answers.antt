@@ -5,7 +5,7 @@ use Rattle.bp_log.specs.Options.{PlainOptions}
 use Rattle.bp_log.specs.declared.record.Record.{Record}
 use Rattle.bp_explain.specs.Explained.{state_of}
 use Rattle.bp_answers.specs.Asking.{AnswersBehind}
-use Rattle.bp_answers.specs.Walking.{PartsAs}
+use Rattle.bp_answers.specs.inner.Led.{PartsAs}
 use Rattle.bp_answers.specs.declared.answer.NoAnswer.{NoAnswer}
 use Rattle.bp_answers.proofs.Asks.{answered, unmade}
 use Rattle.bp_answers.proofs.asking.state_behind.Goals as goal

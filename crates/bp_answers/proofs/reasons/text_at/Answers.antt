@@ -6,8 +6,8 @@ use Rattle.bp_log.specs.declared.record.Record.TheVariants.{Sel}
 use Rattle.bp_arbiter.specs.Arbiters.{PlainArbiter}
 use Rattle.bp_replay.specs.declared.fault.ReplayFault.{ReplayFault}
 use Rattle.bp_replay.specs.Following.{Followed, IsThere, Makes}
-use Rattle.bp_answers.specs.Walking.{PartsAs}
-use Rattle.bp_answers.specs.Reasons.{DiffersWhere}
+use Rattle.bp_answers.specs.inner.Led.{PartsAs}
+use Rattle.bp_answers.specs.inner.Reasons.{DiffersWhere}
 use Rattle.bp_answers.proofs.ReasonLemmas.{followed_within, parts_more, parts_within, why_parts, why_told}
 use Rattle.bp_answers.proofs.Walks.{split_at, taken}
 use Rattle.bp_answers.proofs.reasons.text_at.Goals as goal

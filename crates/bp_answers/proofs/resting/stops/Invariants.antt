@@ -1,5 +1,5 @@
 use Rattle.std.proofs.Common.{◌≡◌, ◌++◌, map, drop}
-use Rattle.bp_answers.specs.Resting.{plain_stop, stops_from}
+use Rattle.bp_answers.specs.inner.Resting.{plain_stop, stops_from}
 use Rattle.bp_answers.proofs.resting.stops.Given as goal
 
 abbrev pub invariant-loop-number : goal.invariant-loop-number

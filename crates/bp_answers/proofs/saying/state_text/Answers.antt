@@ -1,7 +1,7 @@
 use Rattle.std.proofs.Common.{◌∙◌, ◌++◌, List, ℕ, ap, string_bytes, subst, sym}
 use Rattle.bp_arbiter.specs.Arbiters.{PlainArbiter}
 use Rattle.bp_explain.specs.Explained.{before_end, heading}
-use Rattle.bp_answers.specs.Walking.{LeadsTo}
+use Rattle.bp_answers.specs.inner.Led.{LeadsTo}
 use Rattle.bp_answers.proofs.States.{state_told}
 use Rattle.bp_answers.proofs.saying.state_text.Goals as goal
 

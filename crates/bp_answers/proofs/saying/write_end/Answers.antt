@@ -7,7 +7,7 @@ use Rattle.bp_log.specs.Records.{verdict_of}
 use Rattle.bp_log.specs.declared.verdict.Verdict.{Verdict}
 use Rattle.bp_explain.specs.Explained.{before_end, verdict_line}
 use Rattle.bp_replay.specs.declared.fault.ReplayFault.{ReplayFault}
-use Rattle.bp_answers.specs.Walking.{LeadsTo, PartsAs}
+use Rattle.bp_answers.specs.inner.Led.{LeadsTo, PartsAs}
 use Rattle.bp_answers.proofs.States.{ended_none, ended_some, parts_end}
 use Rattle.bp_answers.proofs.saying.write_end.Goals as goal
 

@@ -1,7 +1,7 @@
 use Rattle.std.proofs.Common.{subst, string_bytes}
 use Rattle.std.proofs.lemmas.Result.{on_ok_weaker}
 use Rattle.bp_arbiter.specs.Arbiters.{PlainArbiter}
-use Rattle.bp_answers.specs.Reasons.{SaysWhy}
+use Rattle.bp_answers.specs.inner.Reasons.{SaysWhy}
 use Rattle.bp_answers.proofs.ReasonLemmas.{says_none}
 use Rattle.bp_answers.proofs.selecting.write_why.Goals as goal
 

@@ -6,7 +6,7 @@ use Rattle.bp_log.specs.declared.record.Record.{Record}
 use Rattle.bp_log.specs.declared.version.Version.TheVariants.{Second}
 use Rattle.bp_replay.specs.declared.fault.ReplayFault.{ReplayFault}
 use Rattle.bp_replay.specs.Following.{first_of, onto, Makes}
-use Rattle.bp_answers.specs.Walking.{PartsAs}
+use Rattle.bp_answers.specs.inner.Led.{PartsAs}
 use Rattle.bp_answers.proofs.Walks.{IsNoEnd, along_first, along_on, is_no_end, leads_ended, makes_on, on_way, parts_as, split_at, taken}
 use Rattle.bp_answers.proofs.walking.walk.Goals as goal
 

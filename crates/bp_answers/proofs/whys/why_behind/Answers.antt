@@ -2,7 +2,7 @@ use Rattle.std.proofs.Common.{◌≡◌, List, subst}
 use Rattle.std.specs.Prelude.{IfErr, IfOk, Some, string_bytes}
 use Rattle.bp_log.specs.Options.{PlainOptions}
 use Rattle.bp_log.specs.declared.record.Record.{Record}
-use Rattle.bp_answers.specs.Reasons.{HasNothing}
+use Rattle.bp_answers.specs.inner.Reasons.{HasNothing}
 use Rattle.bp_answers.specs.Whys.{IsAsked, IsMissing, said_of}
 use Rattle.bp_answers.proofs.WhyLemmas.{why_answered}
 use Rattle.bp_answers.proofs.whys.why_behind.Goals as goal

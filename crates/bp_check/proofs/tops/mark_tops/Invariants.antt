@@ -1,6 +1,7 @@
 use Rattle.std.proofs.Common.{◌≤◌, length, drop}
 use Rattle.js_program.specs.PlainProgram.{content_parts}
-use Rattle.bp_check.specs.Tops.{numbers_in, Marks}
+use Rattle.bp_check.specs.Tops.{numbers_in}
+use Rattle.bp_check.specs.inner.Marks.{Marks}
 use Rattle.bp_check.proofs.tops.mark_tops.Given as goal
 
 abbrev pub invariant-loop-number : goal.invariant-loop-number

@@ -1,5 +1,5 @@
 use Rattle.std.proofs.Common.{◌≡◌, ◌++◌, drop, filter}
-use Rattle.bp_explain.specs.Reasons.{leaves}
+use Rattle.bp_explain.specs.inner.Leaving.{leaves}
 use Rattle.bp_explain.proofs.leaving.left_of.Given as goal
 
 abbrev pub invariant-loop-event : goal.invariant-loop-event

@@ -1,7 +1,7 @@
 use Rattle.std.proofs.Common.{◌≡◌, ◌++◌, drop}
 use Rattle.js_frames.specs.Places.{plain_ground}
 use Rattle.bp_meaning.specs.Membership.{member}
-use Rattle.bp_explain.specs.Stops.{texts_in}
+use Rattle.bp_explain.specs.inner.Lists.{texts_in}
 use Rattle.bp_explain.specs.Reasons.{moved_names}
 use Rattle.bp_explain.proofs.reaching.moved.Given as goal
 

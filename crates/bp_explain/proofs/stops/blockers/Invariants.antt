@@ -1,7 +1,8 @@
 use Rattle.std.proofs.Common.{◌≡◌, ◌++◌, drop}
 use Rattle.js_frames.specs.Places.{plain_ground}
 use Rattle.bp_meaning.specs.Membership.{member}
-use Rattle.bp_explain.specs.Stops.{blocker_names, texts_in}
+use Rattle.bp_explain.specs.Stops.{blocker_names}
+use Rattle.bp_explain.specs.inner.Lists.{texts_in}
 use Rattle.bp_explain.proofs.stops.blockers.Given as goal
 
 abbrev pub invariant-loop-stop : goal.invariant-loop-stop

@@ -1,5 +1,5 @@
 use Rattle.std.proofs.Common.{◌≡◌, [], drop}
-use Rattle.bp_explain.specs.Stops.{with_all}
+use Rattle.bp_explain.specs.inner.Lists.{with_all}
 use Rattle.bp_explain.proofs.Noted.{asked_in}
 use Rattle.bp_explain.proofs.stops.candidates.Given as goal
 

@@ -1,5 +1,6 @@
 use Rattle.std.proofs.Common.{◌≡◌, drop}
-use Rattle.bp_explain.specs.Stops.{live_of, with_all}
+use Rattle.bp_explain.specs.Stops.{live_of}
+use Rattle.bp_explain.specs.inner.Lists.{with_all}
 use Rattle.bp_explain.proofs.stops.note_all.Given as goal
 
 abbrev pub invariant-loop-event : goal.invariant-loop-event

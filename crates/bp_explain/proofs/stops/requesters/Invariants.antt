@@ -1,5 +1,6 @@
 use Rattle.std.proofs.Common.{◌≡◌, ◌++◌, drop}
-use Rattle.bp_explain.specs.Stops.{requester_names, texts_in}
+use Rattle.bp_explain.specs.Stops.{requester_names}
+use Rattle.bp_explain.specs.inner.Lists.{texts_in}
 use Rattle.bp_explain.proofs.stops.requesters.Given as goal
 
 abbrev pub invariant-loop-stop : goal.invariant-loop-stop

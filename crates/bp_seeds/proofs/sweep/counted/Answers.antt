@@ -1,6 +1,6 @@
-use Rattle.std.proofs.Common.{◌∙◌, ◌+◌, List, ap, arith}
-use Rattle.bp_explain.specs.Seeds.{Counted}
-use Rattle.bp_seeds.specs.Merged.{count_more, total}
+use Rattle.std.proofs.Common.{◌∙◌, ◌+◌, ap, arith}
+use Rattle.bp_explain.specs.Seeds.{Counted, count_more}
+use Rattle.bp_seeds.specs.inner.Merged.{total}
 use Rattle.bp_seeds.proofs.Merging.{total_more}
 use Rattle.bp_seeds.proofs.Sweeping.{counts_on}
 use Rattle.bp_seeds.proofs.sweep.counted.Goals as goal

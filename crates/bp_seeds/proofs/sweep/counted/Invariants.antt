@@ -1,6 +1,6 @@
 use Rattle.std.proofs.Common.{◌+◌, ◌≤◌}
-use Rattle.bp_seeds.specs.Merged.{total}
-use Rattle.bp_seeds.specs.Sweeps.{AreCounts}
+use Rattle.bp_seeds.specs.inner.Merged.{total}
+use Rattle.bp_seeds.specs.inner.Parts.{AreCounts}
 use Rattle.bp_seeds.proofs.sweep.counted.Given as goal
 
 abbrev pub invariant-loop-step : goal.invariant-loop-step

@@ -1,12 +1,10 @@
-use Rattle.std.proofs.Common.{rules, ◌≡◌, ◌∙◌, ◌+◌, ◌≤◌, ◌<◌, ◌∷◌, ◌++◌, ℕ, List, [], length, length-append, append_assoc, ap, sym, subst, arith, Result, Ok, IfOk}
-use Rattle.std.specs.Prelude.{slice_index_or}
+use Rattle.std.proofs.Common.{rules, ◌≡◌, ◌∙◌, ◌+◌, ◌∷◌, ◌++◌, ℕ, List, [], length, length-append, append_assoc, ap, sym, subst, arith, Result, Ok, IfOk}
 use Rattle.std.specs.Vec.Iter.{into_iter_items}
 use Rattle.std.proofs.lemmas.Result.{IfOk-at_ok}
 use Rattle.std.specs.declared.alloc.AllocError.{AllocError}
 use Rattle.bp_explain.specs.Seeds.{Counted}
-use Rattle.bp_seeds.specs.Merged.{total}
-use Rattle.bp_seeds.specs.Sweeps.{AreCounts, ArePart, before}
-use Rattle.bp_seeds.proofs.Sweeping.{item_there, part_on, few_parts, counted_so_far}
+use Rattle.bp_seeds.specs.inner.Parts.{AreCounts, ArePart, before}
+use Rattle.bp_seeds.proofs.Sweeping.{part_on, few_parts, counted_so_far}
 use Rattle.bp_seeds.proofs.sweep.gather.Goals as goal
 
 pub merge-requires : goal.merge-requires

@@ -1,6 +1,6 @@
 use Rattle.std.proofs.Common.{◌≡◌, ◌++◌, length}
 use Rattle.std.specs.Vec.Iter.{into_iter_items}
-use Rattle.bp_seeds.specs.Sweeps.{AreCounts, before}
+use Rattle.bp_seeds.specs.inner.Parts.{AreCounts, before}
 use Rattle.bp_seeds.proofs.sweep.gather.Given as goal
 
 abbrev pub invariant-loop-part : goal.invariant-loop-part

@@ -1,7 +1,8 @@
 use Rattle.std.proofs.Common.{◌∙◌, ap, subst, sym}
 use Rattle.std.specs.Prelude.{string_bytes}
 use Rattle.bpx_cli.specs.declared.ended.Ended.{Ended}
-use Rattle.bpx_cli.specs.Answers.{IsChecked, ended_by}
+use Rattle.bpx_cli.specs.Answers.{IsChecked}
+use Rattle.bpx_cli.specs.inner.Ends.{ended_by}
 use Rattle.bpx_cli.proofs.Tells.{is_checked}
 use Rattle.bpx_cli.proofs.answering.checked.Goals as goal
 

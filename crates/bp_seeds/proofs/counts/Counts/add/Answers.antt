@@ -1,6 +1,6 @@
 use Rattle.std.proofs.Common.{◌≡◌, Some, arith}
 use Rattle.std.specs.Prelude.{slice_index_or}
-use Rattle.bp_seeds.specs.Merged.{place_of}
+use Rattle.bp_seeds.specs.inner.Merged.{place_of}
 use Rattle.bp_seeds.proofs.Places.{placed, set_at, few_at}
 use Rattle.bp_seeds.proofs.counts.Counts.add.Goals as goal
 

@@ -1,7 +1,7 @@
 use Rattle.std.proofs.Common.{◌∙◌, List, ap, sym, arith}
 use Rattle.std.specs.Vec.Iter.{into_iter_items}
 use Rattle.bp_explain.specs.Seeds.{Counted}
-use Rattle.bp_seeds.specs.Merged.{merged, total}
+use Rattle.bp_seeds.specs.inner.Merged.{merged, total}
 use Rattle.bp_seeds.proofs.Merging.{total_more}
 use Rattle.bp_seeds.proofs.counts.Counts.merge.Goals as goal
 

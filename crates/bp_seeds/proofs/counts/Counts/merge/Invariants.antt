@@ -1,6 +1,6 @@
 use Rattle.std.proofs.Common.{◌≡◌, ◌+◌, ◌<◌, ◌^◌}
 use Rattle.std.specs.Vec.Iter.{into_iter_items}
-use Rattle.bp_seeds.specs.Merged.{merged, total}
+use Rattle.bp_seeds.specs.inner.Merged.{merged, total}
 use Rattle.bp_seeds.proofs.counts.Counts.merge.Given as goal
 
 abbrev pub invariant-loop-more : goal.invariant-loop-more

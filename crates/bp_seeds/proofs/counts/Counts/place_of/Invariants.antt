@@ -1,5 +1,5 @@
 use Rattle.std.proofs.Common.{◌≡◌, drop}
-use Rattle.bp_seeds.specs.Merged.{place_of}
+use Rattle.bp_seeds.specs.inner.Merged.{place_of}
 use Rattle.bp_seeds.proofs.Places.{from}
 use Rattle.bp_seeds.proofs.counts.Counts.place_of.Given as goal
 

@@ -12,10 +12,6 @@ abbrev pub EndsSo : PlainProgram → PlainOptions → End → Type 0
 EndsSo program options end =
     kind_alone (code_of program options) options ≡ Some (kind_text end.alive end.verdict)
 
--- the bytes are a program
-abbrev pub HasProgram : List ℕ → Type 0
-HasProgram bytes = (program : PlainProgram) × IsProgram bytes program
-
 -- under this seed the run of the program that the bytes are ends in a way of this kind
 abbrev pub IsKind : List ℕ → PlainOptions → ℕ → List ℕ → Type 0
 IsKind bytes options seed kind =

@@ -1,13 +1,7 @@
 -- Counts of ends, of two ranges of seeds as of one.
 use Rattle.std.specs.Prelude.{ℕ, suc, ◌+◌, List, [], ◌∷◌, Option, Some, None, option_map, if◌then◌else◌}
 use Rattle.std.specs.Str.{bytes_eq}
-use Rattle.bp_explain.specs.Seeds.{Counted, ends_from, count_all}
-
--- as many more of a kind: a kind that is known keeps its place and its first seed
-abbrev pub count_more : Counted → List Counted → List Counted
-count_more e [] = e ∷ []
-count_more e (x ∷ xs) =
-    if bytes_eq x.kind e.kind then record x { count = x.count + e.count } ∷ xs else x ∷ count_more e xs
+use Rattle.bp_explain.specs.Seeds.{Counted, count_all, count_more, ends_from}
 
 -- where the kind stands
 abbrev pub place_of : List ℕ → List Counted → Option ℕ

@@ -1,5 +1,5 @@
 -- Why an event of records was selected, and who asks for one where they lead.
-use Rattle.std.specs.Prelude.{◌≡◌, ◌≤◌, ◌+◌, ℕ, zero, suc, List, [], ◌++◌, length, take, slice_get, Option, Some, None}
+use Rattle.std.specs.Prelude.{◌≡◌, ◌+◌, ℕ, List, [], ◌++◌, length, take, slice_get, Option, Some, None}
 use Rattle.js_data.specs.Event.{PlainEvent}
 use Rattle.js_program.specs.PlainProgram.{PlainProgram}
 use Rattle.js_meaning.specs.Bodies.{Origin}
@@ -17,7 +17,7 @@ use Rattle.bp_replay.specs.declared.fault.ReplayFault.{ReplayFault}
 use Rattle.bp_replay.specs.declared.fault.ReplayFault.TheVariants.{Log, Differs, Program, Write, Memory}
 use Rattle.bp_answers.specs.declared.answer.NoAnswer.{NoAnswer}
 use Rattle.bp_answers.specs.declared.answer.NoAnswer.TheVariants.{Refused, Absent}
-use Rattle.bp_answers.specs.Walking.{PartsAs}
+use Rattle.bp_answers.specs.inner.Led.{PartsAs}
 
 -- what was written is why what comes next is selected, if that is an event
 abbrev pub SaysWhy : PlainArbiter → List ℕ → List ℕ → Type 0
@@ -48,18 +48,6 @@ IsPlaceOf n records None = before_selection n [] records ≡ None
 IsPlaceOf n records (Some i) =
     (e : PlainEvent) × (slice_get records i ≡ Some (Sel e))
     × (before_selection n [] records ≡ Some (take i records, e))
-
--- fewer selections than this many
-abbrev pub HasFewer : ℕ → List Record → Type 0
-HasFewer zero records = Unit {0}
-HasFewer (suc n) records = before_selection n [] records ≡ None
-
--- there is a selection of the first number, and the record of the second stands before it or is its own
-abbrev pub IsUpTo : ℕ → List Record → ℕ → Type 0
-IsUpTo zero records number = ⊥
-IsUpTo (suc n) records number =
-    (b : List Record × PlainEvent) × (before_selection n [] records ≡ Some b)
-    × (number ≤ length b.0 + 1)
 
 -- this holds of the number of the record that the run does not make
 abbrev pub DiffersWhere : (ℕ → Type 0) → ReplayFault → Type 0

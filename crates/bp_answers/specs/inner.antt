@@ -1,0 +1,5 @@
+-- What the contracts inside of this crate cite, and nothing that an answer of `bpx` is promised by.
+pub mod Read
+pub mod Reasons
+pub mod Resting
+pub mod Led

@@ -1,0 +1,3 @@
+-- What the contracts inside of this crate cite, and nothing that an answer of `bpx` is promised by.
+pub mod Leaving
+pub mod Lists
