@@ -38,7 +38,8 @@ accept|script.js --> 0 ==> accepted;
 accept|script.js --> 0 const a = 1; a + a ==> accepted;
 accept|script.js --> 0 while (true) { break } ==> accepted;
 accept|script.js --> 0 (() => { return 1 }) ==> accepted;
-accept|script.js --> 0 for (let i = 0; i < 3; i++) { const k = i; bp.registerBThread("t" + k, () => { bp.log.info(k) }) } ==> accepted;
+accept|script.js
+    --> 0 for (let i = 0; i < 3; i++) { const k = i; bp.registerBThread("t" + k, () => { bp.log.info(k) }) } ==> accepted;
 accept|script.js --> 0 bp.all(1) ==> accepted;
 accept|script.js --> 0 undefined ==> accepted;
 "#;
@@ -55,7 +56,8 @@ accept|script.js & run|script.js --> 2 const a = 1; a = 2 ==> ! refused line 1: 
 accept|script.js & run|script.js --> 2 function f() {}\nf++ ==> ! refused line 2: const f
 accept|script.js & run|script.js --> 2 let a; let a ==> ! refused line 1: twice a
 accept|script.js & run|script.js --> 2 const Math = 1 ==> ! refused line 1: twice Math
-accept|script.js & run|script.js --> 2 for (let i = 0; i < 3; i++) bp.registerBThread("t" + i, () => { bp.log.info(i) }) ==> ! refused line 1: capture i
+accept|script.js & run|script.js --> 2 for (let i = 0; i < 3; i++) bp.registerBThread("t" + i, () => { bp.log.info(i) })
+    ==> ! refused line 1: capture i
 accept|script.js & run|script.js --> 2 return 1 ==> ! refused line 1: return place
 accept|script.js & run|script.js --> 2 if (true)\nbreak ==> ! refused line 2: loop word
 accept|script.js & run|script.js --> 2 # ==> ! refused line 1: character

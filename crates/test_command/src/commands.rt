@@ -59,7 +59,8 @@ accept p ==> accept p
 replay l ==> replay l
 run p i ==> run p i log none simple 0 1000000 100000 4 10000
 run --seed 1 p --log=l i -- --j p ==> run p i --j p log l simple 1 1000000 100000 4 10000
-run p 1 2 3 4 5 6 7 8 9 10 11 12 13 14 15 16 ==> run p 1 2 3 4 5 6 7 8 9 10 11 12 13 14 15 16 log none simple 0 1000000 100000 4 10000
+run p 1 2 3 4 5 6 7 8 9 10 11 12 13 14 15 16
+    ==> run p 1 2 3 4 5 6 7 8 9 10 11 12 13 14 15 16 log none simple 0 1000000 100000 4 10000
 run p -- --log=l ==> run p --log=l log none simple 0 1000000 100000 4 10000
 run p -- --seed 1 ==> run p --seed 1 log none simple 0 1000000 100000 4 10000
 run p -- -- ==> run p -- log none simple 0 1000000 100000 4 10000
@@ -78,7 +79,8 @@ run p --log=l ==> run p log l simple 0 1000000 100000 4 10000
 run --log=-l p ==> run p log -l simple 0 1000000 100000 4 10000
 run --log - p ==> run p log - simple 0 1000000 100000 4 10000
 run --log=a=b p ==> run p log a=b simple 0 1000000 100000 4 10000
-run --strategy ordered p --seed 18446744073709551615 --budget=1000000000 --steps=1000000 ==> run p log none ordered 18446744073709551615 1000000000 1000000 4 10000
+run --strategy ordered p --seed 18446744073709551615 --budget=1000000000 --steps=1000000
+    ==> run p log none ordered 18446744073709551615 1000000000 1000000 4 10000
 run --strategy=priority --seed=00000000000000000007 --budget 1 --steps 1 p ==> run p log none priority 7 1 1 4 10000
 run p --workers 64 --slice=1000000000 ==> run p log none simple 0 1000000 100000 64 1000000000
 run --workers=01 --slice 1 p ==> run p log none simple 0 1000000 100000 1 1

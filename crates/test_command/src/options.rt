@@ -52,22 +52,46 @@ fn turns_are_taken_under_all_options(rt: HostRuntime) -> Result<(), Fail> {
 
 /// The first word of the random choice is 2 modulo 3 for seed 7, 1 for seed 1, and 0 for seed 0.
 pub const CASES: &str = r#"
-run|--strategy=ordered|script.js --> 0 bp.registerBThread("A", () => { bp.sync({request: [bp.Event("a"), bp.Event("b"), bp.Event("c")]}) }) ==> event ["a"];done "A";verdict quiet 1;
-run|--strategy=ordered|--seed|7|script.js --> 0 bp.registerBThread("A", () => { bp.sync({request: [bp.Event("a"), bp.Event("b"), bp.Event("c")]}) }) ==> event ["a"];done "A";verdict quiet 1;
-run|--strategy|ordered|--seed|3|script.js --> 0 bp.registerBThread("A", () => { bp.sync({request: [bp.Event("a"), bp.Event("b"), bp.Event("c")]}) }) ==> event ["a"];done "A";verdict quiet 1;
-run|--seed=7|script.js --> 0 bp.registerBThread("A", () => { bp.sync({request: [bp.Event("a"), bp.Event("b"), bp.Event("c")]}) }) ==> event ["c"];done "A";verdict quiet 1;
-run|--seed|7|--strategy|simple|script.js --> 0 bp.registerBThread("A", () => { bp.sync({request: [bp.Event("a"), bp.Event("b"), bp.Event("c")]}) }) ==> event ["c"];done "A";verdict quiet 1;
-run|--seed=7|--strategy=priority|script.js --> 0 bp.registerBThread("A", () => { bp.sync({request: [bp.Event("a"), bp.Event("b"), bp.Event("c")]}) }) ==> event ["c"];done "A";verdict quiet 1;
-run|--seed=1|script.js --> 0 bp.registerBThread("A", () => { bp.sync({request: [bp.Event("a"), bp.Event("b"), bp.Event("c")]}) }) ==> event ["b"];done "A";verdict quiet 1;
-run|script.js --> 0 bp.registerBThread("A", () => { bp.sync({request: [bp.Event("a"), bp.Event("b"), bp.Event("c")]}) }) ==> event ["a"];done "A";verdict quiet 1;
-run|--steps|5|script.js --> 6 bp.registerBThread("A", () => { while (true) bp.sync({request: bp.Event("t")}) }) ==> event ["t"];event ["t"];event ["t"];event ["t"];event ["t"];verdict limit steps 5;
-run|--steps=5|script.js --> 0 bp.registerBThread("A", () => { for (let i = 0; i < 5; i++) bp.sync({request: bp.Event("t")}) }) ==> event ["t"];event ["t"];event ["t"];event ["t"];event ["t"];done "A";verdict quiet 5;
+run|--strategy=ordered|script.js
+    --> 0 bp.registerBThread("A", () => { bp.sync({request: [bp.Event("a"), bp.Event("b"), bp.Event("c")]}) })
+    ==> event ["a"];done "A";verdict quiet 1;
+run|--strategy=ordered|--seed|7|script.js
+    --> 0 bp.registerBThread("A", () => { bp.sync({request: [bp.Event("a"), bp.Event("b"), bp.Event("c")]}) })
+    ==> event ["a"];done "A";verdict quiet 1;
+run|--strategy|ordered|--seed|3|script.js
+    --> 0 bp.registerBThread("A", () => { bp.sync({request: [bp.Event("a"), bp.Event("b"), bp.Event("c")]}) })
+    ==> event ["a"];done "A";verdict quiet 1;
+run|--seed=7|script.js
+    --> 0 bp.registerBThread("A", () => { bp.sync({request: [bp.Event("a"), bp.Event("b"), bp.Event("c")]}) })
+    ==> event ["c"];done "A";verdict quiet 1;
+run|--seed|7|--strategy|simple|script.js
+    --> 0 bp.registerBThread("A", () => { bp.sync({request: [bp.Event("a"), bp.Event("b"), bp.Event("c")]}) })
+    ==> event ["c"];done "A";verdict quiet 1;
+run|--seed=7|--strategy=priority|script.js
+    --> 0 bp.registerBThread("A", () => { bp.sync({request: [bp.Event("a"), bp.Event("b"), bp.Event("c")]}) })
+    ==> event ["c"];done "A";verdict quiet 1;
+run|--seed=1|script.js
+    --> 0 bp.registerBThread("A", () => { bp.sync({request: [bp.Event("a"), bp.Event("b"), bp.Event("c")]}) })
+    ==> event ["b"];done "A";verdict quiet 1;
+run|script.js --> 0 bp.registerBThread("A", () => { bp.sync({request: [bp.Event("a"), bp.Event("b"), bp.Event("c")]}) })
+    ==> event ["a"];done "A";verdict quiet 1;
+run|--steps|5|script.js --> 6 bp.registerBThread("A", () => { while (true) bp.sync({request: bp.Event("t")}) })
+    ==> event ["t"];event ["t"];event ["t"];event ["t"];event ["t"];verdict limit steps 5;
+run|--steps=5|script.js
+    --> 0 bp.registerBThread("A", () => { for (let i = 0; i < 5; i++) bp.sync({request: bp.Event("t")}) })
+    ==> event ["t"];event ["t"];event ["t"];event ["t"];event ["t"];done "A";verdict quiet 5;
 run|--budget|10|script.js --> 5 bp.registerBThread("A", () => { while (true) {} }) ==> verdict spent "A";
 run|--budget|10|--slice|1|script.js --> 5 bp.registerBThread("A", () => { while (true) {} }) ==> verdict spent "A";
 run|--budget|10|--slice|3|script.js --> 5 bp.registerBThread("A", () => { while (true) {} }) ==> verdict spent "A";
-run|--workers|1|--slice|1|script.js --> 3 bp.registerBThread("A", () => { for (let i = 0; i < 1000; i++) {} bp.ASSERT(false, "first") }); bp.registerBThread("B", () => { bp.ASSERT(false, "second") }) ==> verdict violated "A" "first";
-run|--workers|2|--slice|1|script.js --> 3 bp.registerBThread("A", () => { for (let i = 0; i < 1000; i++) {} bp.ASSERT(false, "first") }); bp.registerBThread("B", () => { bp.ASSERT(false, "second") }) ==> verdict violated "A" "first";
-run|--workers|2|--slice|1000|script.js --> 3 bp.registerBThread("A", () => { for (let i = 0; i < 1000; i++) {} bp.ASSERT(false, "first") }); bp.registerBThread("B", () => { bp.ASSERT(false, "second") }) ==> verdict violated "A" "first";
+run|--workers|1|--slice|1|script.js
+    --> 3 bp.registerBThread("A", () => { for (let i = 0; i < 1000; i++) {} bp.ASSERT(false, "first") });
+    bp.registerBThread("B", () => { bp.ASSERT(false, "second") }) ==> verdict violated "A" "first";
+run|--workers|2|--slice|1|script.js
+    --> 3 bp.registerBThread("A", () => { for (let i = 0; i < 1000; i++) {} bp.ASSERT(false, "first") });
+    bp.registerBThread("B", () => { bp.ASSERT(false, "second") }) ==> verdict violated "A" "first";
+run|--workers|2|--slice|1000|script.js
+    --> 3 bp.registerBThread("A", () => { for (let i = 0; i < 1000; i++) {} bp.ASSERT(false, "first") });
+    bp.registerBThread("B", () => { bp.ASSERT(false, "second") }) ==> verdict violated "A" "first";
 large|2 --> 0 ==> large 2 events 8 lines 11 bytes 148;
 large|100 --> 0 ==> large 100 events 400 lines 501 bytes 7068;
 accept|--|script.js --> 0 bp.log.info(1) ==> accepted;
@@ -75,9 +99,14 @@ accept|--|script.js --> 0 bp.log.info(1) ==> accepted;
 
 /// Budgets and steps as asked: a body of ten nodes, and one that makes transitions for ever.
 pub const ASKED: &str = r#"
-run|--steps|2|script.js --> 6 bp.registerBThread("A", () => { while (true) bp.sync({request: bp.Event("t")}) }) ==> event ["t"];event ["t"];verdict limit steps 2;
-run|--steps|300000|--workers=1|script.js --> 6 bp.registerBThread("A", () => { while (true) bp.sync({request: bp.Event("t")}) }) ==> «300000 event ["t"];»verdict limit steps 300000;
+run|--steps|2|script.js --> 6 bp.registerBThread("A", () => { while (true) bp.sync({request: bp.Event("t")}) })
+    ==> event ["t"];event ["t"];verdict limit steps 2;
+run|--steps|300000|--workers=1|script.js
+    --> 6 bp.registerBThread("A", () => { while (true) bp.sync({request: bp.Event("t")}) })
+    ==> «300000 event ["t"];»verdict limit steps 300000;
 run|--budget|9|script.js --> 5 bp.registerBThread("A", function() { let a = 1 + 2; let b = a; a + b; }); ==> verdict spent "A";
-run|--budget|10|script.js --> 0 bp.registerBThread("A", function() { let a = 1 + 2; let b = a; a + b; }); ==> done "A";verdict quiet 0;
-run|--budget|10|--slice|3|--workers|2|script.js --> 0 bp.registerBThread("A", function() { let a = 1 + 2; let b = a; a + b; }); ==> done "A";verdict quiet 0;
+run|--budget|10|script.js --> 0 bp.registerBThread("A", function() { let a = 1 + 2; let b = a; a + b; });
+    ==> done "A";verdict quiet 0;
+run|--budget|10|--slice|3|--workers|2|script.js
+    --> 0 bp.registerBThread("A", function() { let a = 1 + 2; let b = a; a + b; }); ==> done "A";verdict quiet 0;
 "#;

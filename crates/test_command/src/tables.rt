@@ -79,18 +79,19 @@ fn holds<R: Threads + Wait + Sync>(
     }
 }
 
-/// Each row of the table holds.
+/// Each row of the table holds. Among rows of one line, a line that is indented goes on with the one before.
 fn agree<R: Threads + Wait + Sync + Abort>(
     rt: &R,
     alloc: Global,
     rows: Rows,
     table: &str,
 ) -> Result<(), Fail> {
-    let between = match rows {
-        Rows::Words | Rows::Runs => "\n",
-        Rows::Traces => "\n\n",
+    let (between, within) = match rows {
+        Rows::Words | Rows::Runs => ("\n", " "),
+        Rows::Traces => ("\n\n", "\n    "),
     };
-    for row in table.trim().split(between) {
+    let whole = table.replace(alloc, "\n    ", within)?;
+    for row in whole.as_str().trim().split(between) {
         assert!(rt; holds(rt, alloc, rows, row)?, "{row}");
     }
     Ok(())

@@ -14,10 +14,13 @@ use std::thread::Threads;
 const LINES: &str = r#"
 bp.registerBThread("A", () => bp.sync({waitFor: bp.all})) <-- ["x"«32763  »] --> 0 ==> external ["x"];;done "A";;verdict quiet 1;;
 bp.registerBThread("A", () => bp.sync({waitFor: bp.all})) <-- ["x"«32764  »] --> 7 ==> verdict bad 0 1;;
-bp.registerBThread("A", () => bp.sync({waitFor: bp.all})) <-- ["x"«32763  »];;oops --> 7 ==> external ["x"];;done "A";;verdict bad 0 2;;
-bp.registerBThread("A", () => bp.sync({waitFor: bp.all})) <-- «32768  »;;["x"] --> 0 ==> external ["x"];;done "A";;verdict quiet 1;;
+bp.registerBThread("A", () => bp.sync({waitFor: bp.all})) <-- ["x"«32763  »];;oops --> 7
+    ==> external ["x"];;done "A";;verdict bad 0 2;;
+bp.registerBThread("A", () => bp.sync({waitFor: bp.all})) <-- «32768  »;;["x"] --> 0
+    ==> external ["x"];;done "A";;verdict quiet 1;;
 bp.registerBThread("A", () => bp.sync({waitFor: bp.all})) <-- «32769  »;;["x"] --> 7 ==> verdict bad 0 1;;
-bp.registerBThread("A", () => bp.sync({waitFor: bp.all})) <-- ["«1022 n»"] --> 0 ==> external ["«1022 n»"];;done "A";;verdict quiet 1;;
+bp.registerBThread("A", () => bp.sync({waitFor: bp.all})) <-- ["«1022 n»"] --> 0
+    ==> external ["«1022 n»"];;done "A";;verdict quiet 1;;
 bp.registerBThread("A", () => bp.sync({waitFor: bp.all})) <-- ["«1023 n»"] --> 7 ==> verdict bad 0 1;;
 "#;
 
@@ -26,11 +29,17 @@ const QUEUES: &str = r#"
 bp.registerBThread("A", () => bp.sync({block: bp.Event("x")})) <-- «16383 ["x"];;» --> 0 ==> verdict quiet 0;;
 bp.registerBThread("A", () => bp.sync({block: bp.Event("x")})) <-- «16384 ["x"];;» --> 6 ==> verdict limit queue 16384;;
 bp.registerBThread("A", () => bp.sync({block: bp.Event("x")})) <-- «16385 ["x"];;» --> 6 ==> verdict limit queue 16384;;
-bp.registerBThread("A", () => bp.sync({block: bp.Event("x")})); for (let i = 0; i < 8192; i++) bp.enqueueExternalEvent(bp.Event("x")) <-- «8191 ["x"];;» --> 0 ==> verdict quiet 0;;
-bp.registerBThread("A", () => bp.sync({block: bp.Event("x")})); for (let i = 0; i < 8192; i++) bp.enqueueExternalEvent(bp.Event("x")) <-- «8192 ["x"];;» --> 6 ==> verdict limit queue 16384;;
-bp.registerBThread("A", () => bp.sync({block: bp.Event("x")})); for (let i = 0; i < 16383; i++) bp.enqueueExternalEvent(bp.Event("x")) <--  --> 0 ==> verdict quiet 0;;
-bp.registerBThread("A", () => bp.sync({block: bp.Event("x")})); for (let i = 0; i < 16384; i++) bp.enqueueExternalEvent(bp.Event("x")) <--  --> 6 ==> verdict limit queue 16384;;
-bp.registerBThread("A", () => bp.sync({waitFor: bp.Event("go"), block: bp.Event("x")})) <-- «16383 ["x"];;»["go"] --> 0 ==> external ["go"];;done "A";;«16383 external ["x"];;»verdict quiet 16384;;
+bp.registerBThread("A", () => bp.sync({block: bp.Event("x")}));
+    for (let i = 0; i < 8192; i++) bp.enqueueExternalEvent(bp.Event("x")) <-- «8191 ["x"];;» --> 0 ==> verdict quiet 0;;
+bp.registerBThread("A", () => bp.sync({block: bp.Event("x")}));
+    for (let i = 0; i < 8192; i++) bp.enqueueExternalEvent(bp.Event("x")) <-- «8192 ["x"];;» --> 6
+    ==> verdict limit queue 16384;;
+bp.registerBThread("A", () => bp.sync({block: bp.Event("x")}));
+    for (let i = 0; i < 16383; i++) bp.enqueueExternalEvent(bp.Event("x")) <--  --> 0 ==> verdict quiet 0;;
+bp.registerBThread("A", () => bp.sync({block: bp.Event("x")}));
+    for (let i = 0; i < 16384; i++) bp.enqueueExternalEvent(bp.Event("x")) <--  --> 6 ==> verdict limit queue 16384;;
+bp.registerBThread("A", () => bp.sync({waitFor: bp.Event("go"), block: bp.Event("x")})) <-- «16383 ["x"];;»["go"] --> 0
+    ==> external ["go"];;done "A";;«16383 external ["x"];;»verdict quiet 16384;;
 "#;
 
 /// The bytes of a cell.
@@ -69,9 +78,10 @@ fn holds<R: Threads + Wait + Sync>(rt: &R, alloc: Global, row: &str) -> Result<b
     Ok(came.came_to(code, "", &text) && again.came_to(code, "", &text))
 }
 
-/// Each row of the table holds.
+/// Each row of the table holds. A line that is indented goes on with the one before.
 fn hold<R: Threads + Wait + Sync + Abort>(rt: &R, alloc: Global, table: &str) -> Result<(), Fail> {
-    for row in table.trim().lines() {
+    let whole = table.replace(alloc, "\n    ", " ")?;
+    for row in whole.as_str().trim().lines() {
         assert!(rt; holds(rt, alloc, row)?, "{row}");
     }
     Ok(())

@@ -47,7 +47,7 @@ fn holds(alloc: Global, lines: Lines, front: &[u8], line: &str) -> Result<bool, 
     }
 }
 
-/// Each line of the table holds, after this front.
+/// Each line of the table holds, after this front. One that is indented goes on with the line before.
 pub fn agree(
     rt: &impl Abort,
     alloc: Global,
@@ -55,7 +55,8 @@ pub fn agree(
     front: &[u8],
     table: &str,
 ) -> Result<(), Fail> {
-    for line in table.lines().skip(1) {
+    let whole = table.replace(alloc, "\n    ", " ")?;
+    for line in whole.as_str().lines().skip(1) {
         assert!(rt; holds(alloc, lines, front, line)?, "{line}");
     }
     Ok(())

@@ -102,17 +102,22 @@ pub fn told_in_each(alloc: Global, bytes: &[u8], want: &str) -> Result<bool, Fai
 }
 
 /// The program is none that is accepted: it is not run.
-const COPIES: &str = "
-@;strategy simple;seed 0;budget 1;steps 1;injectors 1;program 1;x;in 0 [\"x\"];eof 0;end quiet 0; --> bp-log 2;strategy simple;seed 0;budget 1;steps 1;injectors 1;wait yes;program 1;x;in 0 [\"x\"];eof 0;end quiet 0;-->migrated
-~;strategy simple;seed 0;budget 1;steps 1;injectors 1;wait no;program 1;x;end quiet 0; --> bp-log 2;strategy simple;seed 0;budget 1;steps 1;injectors 1;wait no;program 1;x;end quiet 0;-->migrated
-@;strategy simple;seed 0;budget 1;steps 1;injectors 1;program 1;x;eof 0;eof 0;end quiet 0; --> bp-log 2;strategy simple;seed 0;budget 1;steps 1;injectors 1;wait yes;program 1;x;eof 0;-->line 2
-@;strategy simple;seed 0;budget 1;steps 1;injectors 1;program 1;x;eof 0;end quiet --> bp-log 2;strategy simple;seed 0;budget 1;steps 1;injectors 1;wait yes;program 1;x;eof 0;-->cut
-@;strategy simple;seed 0;budget 1;steps 1;injectors 0;program 1;x;end quiet 0;x --> bp-log 2;strategy simple;seed 0;budget 1;steps 1;injectors 0;wait yes;program 1;x;end quiet 0;-->line 2
+const COPIES: &str = r#"
+@;strategy simple;seed 0;budget 1;steps 1;injectors 1;program 1;x;in 0 ["x"];eof 0;end quiet 0;
+    --> bp-log 2;strategy simple;seed 0;budget 1;steps 1;injectors 1;wait yes;program 1;x;in 0 ["x"];eof 0;end quiet 0;-->migrated
+~;strategy simple;seed 0;budget 1;steps 1;injectors 1;wait no;program 1;x;end quiet 0;
+    --> bp-log 2;strategy simple;seed 0;budget 1;steps 1;injectors 1;wait no;program 1;x;end quiet 0;-->migrated
+@;strategy simple;seed 0;budget 1;steps 1;injectors 1;program 1;x;eof 0;eof 0;end quiet 0;
+    --> bp-log 2;strategy simple;seed 0;budget 1;steps 1;injectors 1;wait yes;program 1;x;eof 0;-->line 2
+@;strategy simple;seed 0;budget 1;steps 1;injectors 1;program 1;x;eof 0;end quiet
+    --> bp-log 2;strategy simple;seed 0;budget 1;steps 1;injectors 1;wait yes;program 1;x;eof 0;-->cut
+@;strategy simple;seed 0;budget 1;steps 1;injectors 0;program 1;x;end quiet 0;x
+    --> bp-log 2;strategy simple;seed 0;budget 1;steps 1;injectors 0;wait yes;program 1;x;end quiet 0;-->line 2
 @;strategy simple;seed 0;budget 1;steps 1;injectors 0;wait yes;program 1;x;end quiet 0; --> -->header
 @;strategy simple;seed 0;budget 1;steps 1;injectors 0;program 1;x --> -->cut
 bp-log 3;strategy simple; --> -->version
  --> -->cut
-";
+"#;
 
 #[test]
 fn logs_are_copied_as_far_as_they_are_logs(rt: HostRuntime) -> Result<(), Fail> {

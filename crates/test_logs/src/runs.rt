@@ -14,15 +14,21 @@ bp.registerBThread("C", () => { bp.sync({waitFor: bp.Event("x")}); bp.log.info("
 
 /// Each says a whole run.
 const WHOLE: &str = r#"
-in 0 ["x"];in 0 ["go"];eof 0;sel ["go"];sel ["x"];end quiet 2; --> external ["go"];done "B";external ["x"];log "C" "got";done "C";verdict quiet 2;-->verdict quiet 2
-in 0 ["go"];in 0 ["x"];eof 0;sel ["go"];sel ["x"];end quiet 2; --> external ["go"];done "B";external ["x"];log "C" "got";done "C";verdict quiet 2;-->verdict quiet 2
-in 0 ["x"];in 0 ["go"];sel ["go"];eof 0;sel ["x"];end quiet 2; --> external ["go"];done "B";external ["x"];log "C" "got";done "C";verdict quiet 2;-->verdict quiet 2
-in 0 ["x"];in 0 ["go"];sel ["go"];sel ["x"];eof 0;end quiet 2; --> external ["go"];done "B";external ["x"];log "C" "got";done "C";verdict quiet 2;-->verdict quiet 2
+in 0 ["x"];in 0 ["go"];eof 0;sel ["go"];sel ["x"];end quiet 2;
+    --> external ["go"];done "B";external ["x"];log "C" "got";done "C";verdict quiet 2;-->verdict quiet 2
+in 0 ["go"];in 0 ["x"];eof 0;sel ["go"];sel ["x"];end quiet 2;
+    --> external ["go"];done "B";external ["x"];log "C" "got";done "C";verdict quiet 2;-->verdict quiet 2
+in 0 ["x"];in 0 ["go"];sel ["go"];eof 0;sel ["x"];end quiet 2;
+    --> external ["go"];done "B";external ["x"];log "C" "got";done "C";verdict quiet 2;-->verdict quiet 2
+in 0 ["x"];in 0 ["go"];sel ["go"];sel ["x"];eof 0;end quiet 2;
+    --> external ["go"];done "B";external ["x"];log "C" "got";done "C";verdict quiet 2;-->verdict quiet 2
 in 0 ["x"];eof 0;end quiet 0; --> verdict quiet 0;-->verdict quiet 0
 eof 0;end quiet 0; --> verdict quiet 0;-->verdict quiet 0
 bad 0 7;end bad 0 7; --> verdict bad 0 7;-->verdict bad 0 7
-in 0 ["x"];in 0 ["go"];bad 0 3;sel ["go"];sel ["x"];end bad 0 3; --> external ["go"];done "B";external ["x"];log "C" "got";done "C";verdict bad 0 3;-->verdict bad 0 3
-in 0 ["x",1];in 0 ["go"];eof 0;sel ["x",1];sel ["go"];end quiet 2; --> external ["x",1];external ["go"];done "B";verdict quiet 2;-->verdict quiet 2
+in 0 ["x"];in 0 ["go"];bad 0 3;sel ["go"];sel ["x"];end bad 0 3;
+    --> external ["go"];done "B";external ["x"];log "C" "got";done "C";verdict bad 0 3;-->verdict bad 0 3
+in 0 ["x",1];in 0 ["go"];eof 0;sel ["x",1];sel ["go"];end quiet 2;
+    --> external ["x",1];external ["go"];done "B";verdict quiet 2;-->verdict quiet 2
 "#;
 
 /// Each ends too early, or goes on after its end.
@@ -36,8 +42,10 @@ in 0 ["x"];in 0 ["go"];eof 0; --> -->cut
 in 0 ["x"];in 0 ["go"];eof 0;sel ["go"] --> -->cut
 in 0 ["x"];in 0 ["go"];eof 0;sel ["go"]; --> external ["go"];done "B";-->cut
 in 0 ["x"];in 0 ["go"];eof 0;sel ["go"];sel ["x"]; --> external ["go"];done "B";external ["x"];log "C" "got";done "C";-->cut
-in 0 ["x"];in 0 ["go"];eof 0;sel ["go"];sel ["x"];end quiet 2 --> external ["go"];done "B";external ["x"];log "C" "got";done "C";-->cut
-in 0 ["x"];in 0 ["go"];eof 0;sel ["go"];sel ["x"];end quiet 2;; --> external ["go"];done "B";external ["x"];log "C" "got";done "C";verdict quiet 2;-->line 7
+in 0 ["x"];in 0 ["go"];eof 0;sel ["go"];sel ["x"];end quiet 2
+    --> external ["go"];done "B";external ["x"];log "C" "got";done "C";-->cut
+in 0 ["x"];in 0 ["go"];eof 0;sel ["go"];sel ["x"];end quiet 2;;
+    --> external ["go"];done "B";external ["x"];log "C" "got";done "C";verdict quiet 2;-->line 7
 eof 0;end quiet 0;end quiet 0; --> verdict quiet 0;-->line 3
 "#;
 
@@ -47,10 +55,14 @@ in 0 ["x"];in 0 ["go"];eof 0;sel ["x"];sel ["x"];end quiet 2; --> -->record 4 ex
 in 0 ["x"];in 0 ["go"];eof 0;sel ["go",null];sel ["x"];end quiet 2; --> -->record 4 expected sel ["go"] found sel ["go",null]
 in 0 ["x"];in 0 ["go"];eof 0;sel ["go"];sel ["go"]; --> external ["go"];done "B";-->record 5 expected sel ["x"] found sel ["go"]
 in 0 ["x"];in 0 ["go"];eof 0;end quiet 0; --> -->record 4 expected sel ["go"] found end quiet 0
-in 0 ["x"];in 0 ["go"];eof 0;sel ["go"];sel ["x"];end quiet 3; --> external ["go"];done "B";external ["x"];log "C" "got";done "C";-->record 6 expected end quiet 2 found end quiet 3
-in 0 ["x"];in 0 ["go"];eof 0;sel ["go"];sel ["x"];end spent "B"; --> external ["go"];done "B";external ["x"];log "C" "got";done "C";-->record 6 expected end quiet 2 found end spent "B"
-in 0 ["x"];in 0 ["go"];eof 0;sel ["go"];sel ["x"];sel ["x"]; --> external ["go"];done "B";external ["x"];log "C" "got";done "C";-->record 6 expected end quiet 2 found sel ["x"]
-in 0 ["x"];in 0 ["go"];sel ["go"];sel ["x"];end quiet 2; --> external ["go"];done "B";external ["x"];log "C" "got";done "C";-->record 5 expected wait found end quiet 2
+in 0 ["x"];in 0 ["go"];eof 0;sel ["go"];sel ["x"];end quiet 3;
+    --> external ["go"];done "B";external ["x"];log "C" "got";done "C";-->record 6 expected end quiet 2 found end quiet 3
+in 0 ["x"];in 0 ["go"];eof 0;sel ["go"];sel ["x"];end spent "B";
+    --> external ["go"];done "B";external ["x"];log "C" "got";done "C";-->record 6 expected end quiet 2 found end spent "B"
+in 0 ["x"];in 0 ["go"];eof 0;sel ["go"];sel ["x"];sel ["x"];
+    --> external ["go"];done "B";external ["x"];log "C" "got";done "C";-->record 6 expected end quiet 2 found sel ["x"]
+in 0 ["x"];in 0 ["go"];sel ["go"];sel ["x"];end quiet 2;
+    --> external ["go"];done "B";external ["x"];log "C" "got";done "C";-->record 5 expected wait found end quiet 2
 sel ["x"]; --> -->record 1 expected wait found sel ["x"]
 end quiet 0; --> -->record 1 expected wait found end quiet 0
 in 0 ["x"];sel ["x"]; --> -->record 2 expected wait found sel ["x"]
@@ -79,8 +91,10 @@ eof 0;eof 0; --> -->line 2
 eof 0;in 0 ["x"]; --> -->line 2
 bad 0 1;bad 0 2; --> -->line 2
 in 0 ["x"];in 0 ["go"];eof 0;sel ["go"];sel [x];end quiet 2; --> external ["go"];done "B";-->line 5
-in 0 ["x"];in 0 ["go"];eof 0;sel ["go"];sel ["x"];end quiet 02; --> external ["go"];done "B";external ["x"];log "C" "got";done "C";-->line 6
-in 0 ["x"];in 0 ["go"];eof 0;sel ["go"];sel ["x"];end limit steps 2x; --> external ["go"];done "B";external ["x"];log "C" "got";done "C";-->line 6
+in 0 ["x"];in 0 ["go"];eof 0;sel ["go"];sel ["x"];end quiet 02;
+    --> external ["go"];done "B";external ["x"];log "C" "got";done "C";-->line 6
+in 0 ["x"];in 0 ["go"];eof 0;sel ["go"];sel ["x"];end limit steps 2x;
+    --> external ["go"];done "B";external ["x"];log "C" "got";done "C";-->line 6
 "#;
 
 fn options(budget: u64, steps: u32, injectors: u32) -> Result<Options, Fail> {
@@ -113,8 +127,10 @@ end quiet 0; --> verdict quiet 0;-->verdict quiet 0
 eof 0;end quiet 0; --> verdict quiet 0;-->verdict quiet 0
 in 0 ["x"];end quiet 0; --> verdict quiet 0;-->verdict quiet 0
 in 0 ["go"];sel ["go"];end quiet 1; --> external ["go"];done "B";verdict quiet 1;-->verdict quiet 1
-in 0 ["x"];in 0 ["go"];sel ["go"];sel ["x"];end quiet 2; --> external ["go"];done "B";external ["x"];log "C" "got";done "C";verdict quiet 2;-->verdict quiet 2
-in 0 ["x"];in 0 ["go"];sel ["go"];eof 0;sel ["x"];end quiet 2; --> external ["go"];done "B";external ["x"];log "C" "got";done "C";verdict quiet 2;-->verdict quiet 2
+in 0 ["x"];in 0 ["go"];sel ["go"];sel ["x"];end quiet 2;
+    --> external ["go"];done "B";external ["x"];log "C" "got";done "C";verdict quiet 2;-->verdict quiet 2
+in 0 ["x"];in 0 ["go"];sel ["go"];eof 0;sel ["x"];end quiet 2;
+    --> external ["go"];done "B";external ["x"];log "C" "got";done "C";verdict quiet 2;-->verdict quiet 2
 bad 0 7;end bad 0 7; --> verdict bad 0 7;-->verdict bad 0 7
 "#;
 
@@ -231,9 +247,12 @@ const FOR_EVER: &str =
     r#"bp.registerBThread("A", () => { while (true) bp.sync({request: bp.Event("t")}) })"#;
 
 const FIVE: &str = r#"
-sel ["t"];sel ["t"];sel ["t"];sel ["t"];sel ["t"];end limit steps 5; --> event ["t"];event ["t"];event ["t"];event ["t"];event ["t"];verdict limit steps 5;-->verdict limit steps 5
-sel ["t"];sel ["t"];sel ["t"];sel ["t"];end limit steps 4; --> event ["t"];event ["t"];event ["t"];event ["t"];-->record 5 expected sel ["t"] found end limit steps 4
-sel ["t"];sel ["t"];sel ["t"];sel ["t"];sel ["t"];sel ["t"]; --> event ["t"];event ["t"];event ["t"];event ["t"];event ["t"];-->record 6 expected end limit steps 5 found sel ["t"]
+sel ["t"];sel ["t"];sel ["t"];sel ["t"];sel ["t"];end limit steps 5;
+    --> event ["t"];event ["t"];event ["t"];event ["t"];event ["t"];verdict limit steps 5;-->verdict limit steps 5
+sel ["t"];sel ["t"];sel ["t"];sel ["t"];end limit steps 4;
+    --> event ["t"];event ["t"];event ["t"];event ["t"];-->record 5 expected sel ["t"] found end limit steps 4
+sel ["t"];sel ["t"];sel ["t"];sel ["t"];sel ["t"];sel ["t"];
+    --> event ["t"];event ["t"];event ["t"];event ["t"];event ["t"];-->record 6 expected end limit steps 5 found sel ["t"]
 eof 0; --> -->line 1
 "#;
 

@@ -31,9 +31,10 @@ fn holds(alloc: Global, lines: Lines, line: &str) -> Result<bool, Fail> {
     }
 }
 
-/// Each line of the table holds.
+/// Each line of the table holds. One that is indented goes on with the line before.
 pub fn agree(rt: &impl Abort, alloc: Global, lines: Lines, table: &str) -> Result<(), Fail> {
-    for line in table.trim().lines() {
+    let whole = table.replace(alloc, "\n    ", " ")?;
+    for line in whole.as_str().trim().lines() {
         assert!(rt; holds(alloc, lines, line)?, "{line}");
     }
     Ok(())

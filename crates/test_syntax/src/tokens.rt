@@ -156,7 +156,8 @@ a?.5:1 --> new name a 0-1 line 1 | mark ?. 1-3 line 1 | number 5 3-4 line 1 | ma
 =>===!==!= --> new mark => 0-2 line 1 | mark === 2-5 line 1 | mark !== 5-8 line 1 | mark != 8-10 line 1
 a+++b --> new name a 0-1 line 1 | mark ++ 1-3 line 1 | mark + 3-4 line 1 | name b 4-5 line 1
 **=??=&&=||= --> new mark **= 0-3 line 1 | mark ??= 3-6 line 1 | mark &&= 6-9 line 1 | mark ||= 9-12 line 1
-{}()[];,:~ --> new mark { 0-1 line 1 | mark } 1-2 line 1 | mark ( 2-3 line 1 | mark ) 3-4 line 1 | mark [ 4-5 line 1 | mark ] 5-6 line 1 | mark ; 6-7 line 1 | mark , 7-8 line 1 | mark : 8-9 line 1 | mark ~ 9-10 line 1
+{}()[];,:~ --> new mark { 0-1 line 1 | mark } 1-2 line 1 | mark ( 2-3 line 1 | mark ) 3-4 line 1 | mark [ 4-5 line 1
+    | mark ] 5-6 line 1 | mark ; 6-7 line 1 | mark , 7-8 line 1 | mark : 8-9 line 1 | mark ~ 9-10 line 1
 a `b` --> Unsupported(2)
 # --> Character(0)
 a @ --> Character(2)
@@ -169,15 +170,24 @@ a%e2%80%83b --> Character(1)
 /// Names and words.
 const WORDS: &str = r#"
 -->
-a $_0 lets typeof of --> new name a 0-1 line 1 | name $_0 2-5 line 1 | name lets 6-10 line 1 | word typeof 11-17 line 1 | name of 18-20 line 1
-const let var function return if else --> new word const 0-5 line 1 | word let 6-9 line 1 | word var 10-13 line 1 | word function 14-22 line 1 | word return 23-29 line 1 | word if 30-32 line 1 | word else 33-37 line 1
-while for break continue true false null --> new word while 0-5 line 1 | word for 6-9 line 1 | word break 10-15 line 1 | word continue 16-24 line 1 | word true 25-29 line 1 | word false 30-35 line 1 | word null 36-40 line 1
+a $_0 lets typeof of --> new name a 0-1 line 1 | name $_0 2-5 line 1 | name lets 6-10 line 1 | word typeof 11-17 line 1
+    | name of 18-20 line 1
+const let var function return if else
+    --> new word const 0-5 line 1 | word let 6-9 line 1 | word var 10-13 line 1 | word function 14-22 line 1
+    | word return 23-29 line 1 | word if 30-32 line 1 | word else 33-37 line 1
+while for break continue true false null
+    --> new word while 0-5 line 1 | word for 6-9 line 1 | word break 10-15 line 1 | word continue 16-24 line 1
+    | word true 25-29 line 1 | word false 30-35 line 1 | word null 36-40 line 1
 "#;
 
 /// Gaps and lines.
 const GAPS: &str = r#"
-a%0ab%0dc%0d%0ad%e2%80%a8e%e2%80%a9f --> new name a 0-1 line 1 | new name b 2-3 line 2 | new name c 4-5 line 3 | new name d 7-8 line 4 | new name e 11-12 line 5 | new name f 15-16 line 6
-%ef%bb%bfa%c2%a0b%09c%0bd%0ce f --> new name a 3-4 line 1 | name b 6-7 line 1 | name c 8-9 line 1 | name d 10-11 line 1 | name e 12-13 line 1 | name f 14-15 line 1
+a%0ab%0dc%0d%0ad%e2%80%a8e%e2%80%a9f
+    --> new name a 0-1 line 1 | new name b 2-3 line 2 | new name c 4-5 line 3 | new name d 7-8 line 4
+    | new name e 11-12 line 5 | new name f 15-16 line 6
+%ef%bb%bfa%c2%a0b%09c%0bd%0ce f
+    --> new name a 3-4 line 1 | name b 6-7 line 1 | name c 8-9 line 1 | name d 10-11 line 1 | name e 12-13 line 1
+    | name f 14-15 line 1
 a//b%0d%0ac// --> new name a 0-1 line 1 | new name c 6-7 line 2
 a/*b*/c --> new name a 0-1 line 1 | name c 6-7 line 1
 a/*%0d%0a*/b --> new name a 0-1 line 1 | new name b 7-8 line 2

@@ -628,7 +628,10 @@ let a = 1 let b\nthis --> Unsupported(2)
 
 /// A script without semicolons.
 const SCRIPT: &str = r#"
-const f = () => {\n  return\n  1\n}\nconst g = x => x\nconst h = g\n(2)\nbp.registerBThread("A", () => {\n  bp.log.info(f())\n  bp.log.info(h)\n})\n --> (const (f (=> () {return 1}))) (const (g (=> (x) x))) (const (h (call g 2))) (call (. bp registerBThread) "A" (=> () {(call (. (. bp log) info) (call f)) (call (. (. bp log) info) h)}))
+const f = () => {\n  return\n  1\n}\nconst g = x => x\nconst h = g\n(2)\nbp.registerBThread("A",
+    () => {\n  bp.log.info(f())\n  bp.log.info(h)\n})\n
+    --> (const (f (=> () {return 1}))) (const (g (=> (x) x))) (const (h (call g 2)))
+    (call (. bp registerBThread) "A" (=> () {(call (. (. bp log) info) (call f)) (call (. (. bp log) info) h)}))
 "#;
 
 #[test]
