@@ -1,4 +1,4 @@
-//! Constant tables: keys of few bytes, each with a number.
+//! Constant tables: keys of few bytes, each with a value.
 #![tactic(auto)]
 
 pub mod row;

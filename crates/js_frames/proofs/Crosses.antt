@@ -1,13 +1,13 @@
 -- Grounds, machines and effects may cross threads.
 use denote.Param.Send.{IsSend, IsSync, sendable}
-use denote.Param.SendFields.{declared_send, variants_send}
+use denote.Param.SendFields.{declared_send, declared_sync, variants_send}
 use Rattle.std.proofs.Crossing.{crosses, Vec-send, send as heap_send}
 use Rattle.js_data.proofs.fault.Fault.TheSendSync as fault
 use Rattle.js_data.proofs.Crosses.{text_send, event_send}
 use Rattle.js_program.proofs.builtin.Mode.TheSendSync as mode
 use Rattle.js_program.proofs.node.Variable.TheSendSync as variable
 use Rattle.js_program.proofs.Crosses.{program_send, program_sync}
-use Rattle.js_ops.specs.contracts.rules.Rules as Rules
+use Rattle.js_ops.proofs.Crosses.{rules_send, rules_sync}
 use Rattle.js_value.proofs.op.Op.TheSendSync as op
 use Rattle.js_value.proofs.Crosses.{items_send, value_send, value_sync}
 use Rattle.js_frames.specs.contracts.effect.Effects as Effects
@@ -34,17 +34,11 @@ slots_send = search (sendable, crosses, value_send) depth 18
 slots_sync : IsSync Slots.the_row
 slots_sync = search (sendable, crosses, value_sync) depth 18
 
-rules_send : IsSend Rules.the_row
-rules_send = search (sendable, crosses) depth 18
-
-rules_sync : IsSync Rules.the_row
-rules_sync = search (sendable, crosses) depth 18
-
 pub ground_send : IsSend Ground.the_row
-ground_send = search (sendable, crosses, program_send, slots_send, rules_send) depth 18
+ground_send = declared_send Ground.the_type (program_send, (slots_send, (rules_send, tt)))
 
 pub ground_sync : IsSync Ground.the_row
-ground_sync = search (sendable, crosses, program_sync, slots_sync, rules_sync) depth 18
+ground_sync = declared_sync Ground.the_type (program_sync, (slots_sync, (rules_sync, tt)))
 
 -- ---- machines
 

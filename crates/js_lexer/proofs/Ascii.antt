@@ -7,6 +7,7 @@ use Rattle.std.proofs.lemmas.Bool.{and_parts}
 use Rattle.std.proofs.lemmas.Slice.Eq.{bytes_eq-Decides}
 use Rattle.js_data.proofs.Shared.{drop_next}
 use Rattle.bp_tables.specs.Found.{front_in}
+use Rattle.js_lexer.specs.declared.sort.Sort.{Sort}
 use Rattle.js_lexer.specs.Bytes.{begins, is_name_byte, is_quote}
 use Rattle.js_lexer.specs.Front.{name_size}
 use Rattle.js_lexer.specs.Spellings.{all_marks}
@@ -32,7 +33,7 @@ abbrev pub are_small : List ℕ → Bool
 are_small [] = true
 are_small (b ∷ bs) = nat_lt b 128 && are_small bs
 
-abbrev keys_are_small : List (List ℕ × ℕ) → Bool
+abbrev keys_are_small : List (List ℕ × Sort) → Bool
 keys_are_small [] = true
 keys_are_small (e ∷ es) = are_small e.0 && keys_are_small es
 
@@ -41,14 +42,14 @@ small_ascii [] h i = omega arith
 small_ascii (b ∷ bs) h zero = grind (arith, nat_tests)
 small_ascii (b ∷ bs) h (suc i) = small_ascii bs (and_parts _ _ h).1 i
 
-key_by : (e : List ℕ × ℕ) (es : List (List ℕ × ℕ)) (bs : List ℕ) (n : ℕ) (t : Bool) → begins bs e.0 ≡ t → are_small e.0 ≡ true →
+key_by : (e : List ℕ × Sort) (es : List (List ℕ × Sort)) (bs : List ℕ) (n : ℕ) (t : Bool) → begins bs e.0 ≡ t → are_small e.0 ≡ true →
     (if t then Some (length e.0) else front_in es bs) ≡ Some n → (front_in es bs ≡ Some n → are_small (take n bs) ≡ true) → are_small (take n bs) ≡ true
 key_by e es bs n true h s k f =
     let m : length e.0 ≡ n = cc in
     rw (← m, ← ((bytes_eq-Decides e.0 (take (length e.0) bs)).0 h)) s
 key_by e es bs n false h s k f = f k
 
-key_ascii : (es : List (List ℕ × ℕ)) (bs : List ℕ) (n : ℕ) → keys_are_small es ≡ true → front_in es bs ≡ Some n → are_small (take n bs) ≡ true
+key_ascii : (es : List (List ℕ × Sort)) (bs : List ℕ) (n : ℕ) → keys_are_small es ≡ true → front_in es bs ≡ Some n → are_small (take n bs) ≡ true
 key_ascii [] bs n h k = cc
 key_ascii (e ∷ es) bs n h k = key_by e es bs n (begins bs e.0) refl (and_parts _ _ h).0 k (λ l. key_ascii es bs n (and_parts _ _ h).1 l)
 

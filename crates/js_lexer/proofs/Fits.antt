@@ -5,6 +5,7 @@ use Rattle.std.proofs.lemmas.Bool.{eqb-true, and_parts}
 use Rattle.std.proofs.lemmas.Bool.Decides.{nat_tests}
 use Rattle.std.proofs.lemmas.Slice.Eq.{bytes_eq-Decides}
 use Rattle.bp_tables.specs.Found.{front_in}
+use Rattle.js_lexer.specs.declared.sort.Sort.{Sort}
 use Rattle.js_lexer.specs.declared.numbers.TheConstants.{GREATEST}
 use Rattle.js_lexer.specs.declared.token.Kind.TheVariants.{Number}
 use Rattle.js_lexer.specs.declared.token.Flaw.TheVariants.{Character, NumberRange, Unsupported}
@@ -175,11 +176,11 @@ close-within (b ∷ bs) n h = close_by (begins (b ∷ bs) (codes "*/")) refl h (
     close_by false k e f = mapped (size_to_close bs) f e
 
 -- marks
-abbrev no_empty_key : List (List ℕ × ℕ) → Bool
+abbrev no_empty_key : List (List ℕ × Sort) → Bool
 no_empty_key [] = true
 no_empty_key (e ∷ es) = nat_lt 0 (length e.0) && no_empty_key es
 
-front_in-sized : (es : List (List ℕ × ℕ)) (bs : List ℕ) (n : ℕ) → no_empty_key es ≡ true → front_in es bs ≡ Some n → Sized n bs
+front_in-sized : (es : List (List ℕ × Sort)) (bs : List ℕ) (n : ℕ) → no_empty_key es ≡ true → front_in es bs ≡ Some n → Sized n bs
 front_in-sized [] bs n h k = cc
 front_in-sized (e ∷ es) bs n h k = key_by (begins bs e.0) refl k (λ m. front_in-sized es bs n (and_parts _ _ h).1 m)
   where

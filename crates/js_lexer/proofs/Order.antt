@@ -4,6 +4,7 @@ use Rattle.std.specs.Str.{bytes_eq}
 use Rattle.std.proofs.lemmas.Bool.{and_from, and_parts, or_right, le-leb, leb-true}
 use Rattle.std.proofs.lemmas.Slice.Eq.{bytes_eq-Decides}
 use Rattle.bp_tables.specs.Found.{find_in, front_in}
+use Rattle.js_lexer.specs.declared.sort.Sort.{Sort}
 use Rattle.js_lexer.specs.declared.numbers.TheConstants.{GREATEST}
 use Rattle.js_lexer.specs.declared.token.Kind.{Kind}
 use Rattle.js_lexer.specs.declared.token.Kind.TheVariants.{Name, Keyword, Number}
@@ -97,18 +98,18 @@ pub tokens_in_order : (bytes : List ℕ) → TokensInOrder bytes
 tokens_in_order bytes ts d = placed bytes 0 (omega arith) d
 
 -- no entry is longer than the one before it
-abbrev is_falling : ℕ → List (List ℕ × ℕ) → Bool
+abbrev is_falling : ℕ → List (List ℕ × Sort) → Bool
 is_falling n [] = true
 is_falling n (e ∷ es) = nat_le (length e.0) n && is_falling (length e.0) es
 
-falling-none : (m n : ℕ) (es : List (List ℕ × ℕ)) (bs : List ℕ) → m ≤ n → is_falling m es ≡ true → none_longer n es bs ≡ true
+falling-none : (m n : ℕ) (es : List (List ℕ × Sort)) (bs : List ℕ) → m ≤ n → is_falling m es ≡ true → none_longer n es bs ≡ true
 falling-none m n [] bs l h = refl
 falling-none m n (e ∷ es) bs l h =
     let k = leb-true (length e.0) m (and_parts (nat_le (length e.0) m) (is_falling (length e.0) es) h).0 in
     and_from _ _ (or_right (not (begins bs e.0)) _ (le-leb (length e.0) n (omega arith)))
     (falling-none (length e.0) n es bs (omega arith) (and_parts (nat_le (length e.0) m) (is_falling (length e.0) es) h).1)
 
-front-longest : (m n : ℕ) (es : List (List ℕ × ℕ)) (bs : List ℕ) → is_falling m es ≡ true → front_in es bs ≡ Some n → none_longer n es bs ≡ true
+front-longest : (m n : ℕ) (es : List (List ℕ × Sort)) (bs : List ℕ) → is_falling m es ≡ true → front_in es bs ≡ Some n → none_longer n es bs ≡ true
 front-longest m n [] bs h k = cc
 front-longest m n (e ∷ es) bs h k = by_test (begins bs e.0) k (λ l. front-longest (length e.0) n es bs falls l)
   where
@@ -123,15 +124,15 @@ front-longest m n (e ∷ es) bs h k = by_test (begins bs e.0) k (λ l. front-lon
     by_test false l f = f l
 
 -- an entry of the list has the key
-abbrev is_among : List ℕ → List (List ℕ × ℕ) → Bool
+abbrev is_among : List ℕ → List (List ℕ × Sort) → Bool
 is_among key [] = false
 is_among key (e ∷ es) = bytes_eq e.0 key || is_among key es
 
-abbrev are_among : List (List ℕ × ℕ) → List (List ℕ × ℕ) → Bool
+abbrev are_among : List (List ℕ × Sort) → List (List ℕ × Sort) → Bool
 are_among [] es = true
 are_among (f ∷ fs) es = is_among f.0 es && are_among fs es
 
-none-at : (n : ℕ) (es : List (List ℕ × ℕ)) (bs key : List ℕ) → none_longer n es bs ≡ true → is_among key es ≡ true → not (begins bs key) || nat_le (length key) n ≡ true
+none-at : (n : ℕ) (es : List (List ℕ × Sort)) (bs key : List ℕ) → none_longer n es bs ≡ true → is_among key es ≡ true → not (begins bs key) || nat_le (length key) n ≡ true
 none-at n [] bs key h k = cc
 none-at n (e ∷ es) bs key h k = by_test (bytes_eq e.0 key) refl k (λ l. none-at n es bs key (and_parts (not (begins bs e.0) || nat_le (length e.0) n) (none_longer n es bs) h).1 l)
   where
@@ -142,7 +143,7 @@ none-at n (e ∷ es) bs key h k = by_test (bytes_eq e.0 key) refl k (λ l. none-
         (and_parts (not (begins bs e.0) || nat_le (length e.0) n) (none_longer n es bs) h).0
     by_test false l m f = f m
 
-none-all : (n : ℕ) (es fs : List (List ℕ × ℕ)) (bs : List ℕ) → none_longer n es bs ≡ true → are_among fs es ≡ true → none_longer n fs bs ≡ true
+none-all : (n : ℕ) (es fs : List (List ℕ × Sort)) (bs : List ℕ) → none_longer n es bs ≡ true → are_among fs es ≡ true → none_longer n fs bs ≡ true
 none-all n es [] bs h k = refl
 none-all n es (f ∷ fs) bs h k =
     and_from _ _ (none-at n es bs f.0 h (and_parts (is_among f.0 es) (are_among fs es) k).0) (none-all n es fs bs h (and_parts (is_among f.0 es) (are_among fs es) k).1)

@@ -1,6 +1,7 @@
 -- Laws of cutting.
 use Rattle.std.specs.Prelude.{ℕ, ◌≡◌, ◌≤◌, ◌<◌, ◌-◌, ◌⊎◌, nat_le, Bool, true, not, ◌&&◌, ◌||◌, List, [], ◌∷◌, ◌++◌, length, take, drop, ⊤, Some}
 use Rattle.bp_tables.specs.Found.{front_in}
+use Rattle.js_lexer.specs.declared.sort.Sort.{Sort}
 use Rattle.js_lexer.specs.declared.token.Kind.{Kind}
 use Rattle.js_lexer.specs.declared.token.Kind.TheVariants.{Name, Keyword, Number, Text, Mark}
 use Rattle.js_lexer.specs.declared.token.Flaw.{Flaw}
@@ -55,7 +56,7 @@ abbrev pub TokensInOrder : List ℕ → Type 0
 TokensInOrder bytes = (tokens : List Token) → Cut bytes tokens → ArePlaced bytes 0 tokens
 
 -- the entries with which the text begins have at most this many bytes
-abbrev pub none_longer : ℕ → List (List ℕ × ℕ) → List ℕ → Bool
+abbrev pub none_longer : ℕ → List (List ℕ × Sort) → List ℕ → Bool
 none_longer n [] bytes = true
 none_longer n (e ∷ es) bytes = (not (begins bytes e.0) || nat_le (length e.0) n) &&
     none_longer n es bytes

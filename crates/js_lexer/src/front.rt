@@ -14,7 +14,7 @@ use crate::bytes::{begins_name, is_digit_byte, is_quote_byte, stands_in_name};
 use crate::gaps::{blank_front, close_front, line_end_front, line_front};
 use crate::literals::literal_front;
 use crate::numbers::number_front;
-use crate::sort::{Sort, numbered_keyword, numbered_mark};
+use crate::sort::Sort;
 use crate::spellings::{KeywordTable, MarkTable};
 use crate::token::{Flaw, Found, Kind, Stop};
 use bp_tables::Front;
@@ -53,9 +53,8 @@ pub fn name_front(alloc: Global, keywords: &KeywordTable, bytes: &[u8]) -> Resul
 {
     let size = name_extent(bytes);
     let text = text_of(alloc, &bytes[..size])?;
-    let number = keywords.find(&bytes[..size]);
-    let (kind, sort) = match number {
-        Some(_) => (Kind::Keyword(text), numbered_keyword(number)),
+    let (kind, sort) = match keywords.find(&bytes[..size]) {
+        Some(sort) => (Kind::Keyword(text), sort),
         None => (Kind::Name(text), Sort::Name),
     };
     Ok(Found::Token(kind, sort, size))
@@ -70,8 +69,7 @@ pub fn mark_front(alloc: Global, marks: &MarkTable, bytes: &[u8]) -> Result<Foun
         None => Err(Stop::Refused(Flaw::Character, 0)),
         Some(Front { size, value }) => {
             let text = text_of(alloc, &bytes[..size])?;
-            let sort = numbered_mark(Some(value));
-            Ok(Found::Token(Kind::Mark(text), sort, size))
+            Ok(Found::Token(Kind::Mark(text), value, size))
         }
     }
 }
