@@ -15,7 +15,7 @@ use Rattle.js_ops.specs.Made.{Answer}
 use Rattle.js_ops.specs.Answers.{AnswersAs}
 use Rattle.js_ops.specs.declared.op_fault.OpFault.{OpFault}
 use Rattle.js_ops.specs.declared.op_fault.OpFault.TheVariants as op_fault
-use Rattle.js_frames.specs.Leads.{Becomes, FailsAs}
+use Rattle.js_frames.specs.inner.Leads.{Becomes, FailsAs}
 
 pub gives_so : (o : Setting → State → Outcome) (step : Step) (x : Value) → step ≡ Give (Normal x) → ((g : Setting) (s : State) → gives (plain_value x) s ≡ o g s) → Becomes o step
 unfolding step_outcome

@@ -28,7 +28,7 @@ use Rattle.js_frames.specs.declared.frame.Frame.TheVariants.{Waiting}
 use Rattle.js_frames.specs.Places.{Place}
 use Rattle.js_frames.specs.Frames.{rest, resume, parts_from, declaring_from, sequence_from, block_of, block_in}
 use Rattle.js_frames.specs.Fits.{IsNode, AreNodes, IsPerhapsNode, HasForm, IsShort, IsDouble, IsLong, IsDeclaration, FrameFits}
-use Rattle.js_frames.specs.Leads.{pushed, operand_frame}
+use Rattle.js_frames.specs.inner.Leads.{pushed, operand_frame}
 use Rattle.js_frames.proofs.InOrder.{parts_wait}
 
 -- a frame that was made by a call

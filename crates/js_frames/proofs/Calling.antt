@@ -37,7 +37,7 @@ use Rattle.js_frames.specs.Fits.{IsNode, SequenceFits, FrameFits, StackFits}
 use Rattle.js_program.specs.Views.{plain_content}
 use Rattle.js_program.specs.declared.node.Content.{Content}
 use Rattle.js_program.specs.declared.node.Content.TheVariants as content
-use Rattle.js_frames.specs.Leads.{IsBegin, Rests, Leads, pushed, entered, first_of}
+use Rattle.js_frames.specs.inner.Leads.{IsBegin, Rests, Leads, pushed, entered, first_of}
 use Rattle.js_frames.proofs.InOrder.{bind_same}
 use Rattle.js_frames.proofs.Lists.{drop_at, drop_past}
 use Rattle.js_frames.proofs.Steps.{within_after, plug_pushed, fits_pushed, on_ok, ok_both, wait_leads, completes_at, fails_at, moves}

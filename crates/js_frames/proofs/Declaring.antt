@@ -16,7 +16,7 @@ use Rattle.js_program.specs.PlainProgram.{PlainNode, PlainDeclared}
 use Rattle.std.specs.declared.alloc.AllocError.{AllocError}
 use Rattle.js_frames.specs.declared.step.Step.{Step}
 use Rattle.js_frames.specs.Frames.{rest, resume, declares_from, declaring_from}
-use Rattle.js_frames.specs.Leads.{Leads, pushed}
+use Rattle.js_frames.specs.inner.Leads.{Leads, pushed}
 use Rattle.std.specs.List.{filter_map, cons_option}
 use Rattle.js_frames.specs.declared.step.Step.TheVariants.{Begin}
 use Rattle.js_frames.specs.declared.frame.Part.TheVariants.{Declared}

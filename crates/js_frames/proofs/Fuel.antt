@@ -20,7 +20,7 @@ use Rattle.js_frames.specs.declared.frame.Iteration.TheVariants.{OfLoop, OfItems
 use Rattle.js_frames.specs.declared.frame.Frame.{Frame}
 use Rattle.js_frames.specs.declared.frame.Frame.TheVariants.{Waiting, Iterating, Called}
 use Rattle.js_frames.specs.Frames.{statements_of, parts_from, declares_from, declaring_from, rest, again, resume, plug}
-use Rattle.js_frames.specs.Leads.{node_does}
+use Rattle.js_frames.specs.inner.Leads.{node_does}
 
 module _ (g : Setting) where
   -- goes well from every state

@@ -13,7 +13,7 @@ use Rattle.js_meaning.specs.State.{gives}
 use Rattle.js_meaning.specs.Variables.{if_declared}
 use Rattle.js_meaning.specs.Meaning.{does_node, eval, turns_of}
 use Rattle.js_frames.specs.Places.{Place, setting_at, state_at}
-use Rattle.js_frames.specs.Leads.{leaf_at, leaf_of}
+use Rattle.js_frames.specs.inner.Leads.{leaf_at, leaf_of}
 use Rattle.js_frames.proofs.Steps.{OnlyGives}
 use Rattle.js_frames.proofs.Declaring.{held_with}
 

@@ -12,7 +12,7 @@ use Rattle.js_value.specs.Views.{plain_value}
 use Rattle.js_value.specs.declared.value.Value.{Value}
 use Rattle.js_program.specs.PlainProgram.{PlainProgram}
 use Rattle.js_meaning.specs.State as js
-use Rattle.js_meaning.specs.State.{State, Setting, Left, left_of, left_by, Outcome, went, normal, broken, violated, spent, stopped, gives, spends, breaks}
+use Rattle.js_meaning.specs.State.{State, Setting, Left, left_of, left_by, Outcome, went, normal, broken, violated, spent, stopped, spends, breaks}
 use Rattle.js_meaning.specs.Calls.{after_call, answer_of, body_of, enters, calls}
 use Rattle.js_meaning.specs.declared.limits.TheConstants.{MOST_CALLS}
 use Rattle.js_meaning.specs.Meaning.{begins_with, eval}
@@ -32,7 +32,7 @@ use Rattle.js_frames.specs.declared.machine.Machine.{Machine}
 use Rattle.js_frames.specs.declared.engine.Engine.{Engine}
 use Rattle.js_frames.specs.Places.{Place, Beside, plain_effects, place_of, setting_at, state_at, fresh}
 use Rattle.js_frames.specs.Frames.{plain_completion, resume, plug, step_outcome, future}
-use Rattle.js_frames.specs.Leads.{Leads, IsSettled, IsHeld, Advanced, node_does}
+use Rattle.js_frames.specs.inner.Leads.{Leads, IsSettled, IsHeld, Advanced, node_does}
 use Rattle.js_frames.specs.Fits.{StackFits, StepFits}
 use Rattle.js_frames.proofs.Fuel.{node_leaves}
 use Rattle.js_frames.specs.Runs.{PendingFits, IsOfProgram, Stands, untaken, asked_at, answer_at, asked_by, line_asked, answer_by, constants_by, Answers, Says, IsReached, Runs, pause_of, if_zero, pending_outcome, future_of}

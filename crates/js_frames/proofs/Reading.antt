@@ -17,7 +17,6 @@ use Rattle.js_value.specs.Views.{plain_value}
 use Rattle.js_value.specs.declared.value.Value.{Value}
 use Rattle.js_ops.specs.Members.{extra_value, field_or_undefined, member_of}
 use Rattle.js_program.specs.PlainProgram as p
-use Rattle.js_program.specs.PlainProgram.{PlainProgram}
 use Rattle.js_meaning.specs.State as js
 use Rattle.js_meaning.specs.State.{State, gives, answered, ◌>>=◌}
 use Rattle.js_meaning.specs.Meaning.{does_node, eval, turns_of}
@@ -28,8 +27,8 @@ use Rattle.js_frames.specs.declared.frame.Frame.TheVariants.{Waiting}
 use Rattle.js_frames.specs.Places.{Place, Beside, setting_at, state_at}
 use Rattle.js_frames.specs.Frames.{rest, resume, plug}
 use Rattle.js_frames.specs.Fits.{StackFits}
-use Rattle.js_frames.specs.Leads.{Within, Leads, waits_for, leaf_of, node_does}
-use Rattle.js_frames.specs.Reading.{GaveData}
+use Rattle.js_frames.specs.inner.Leads.{Within, Leads, waits_for, leaf_of, node_does}
+use Rattle.js_frames.specs.inner.Reading.{GaveData}
 use Rattle.js_frames.proofs.Steps.{OnlyGives, begins_one, on_ok}
 use Rattle.js_frames.proofs.Giving.{leaf_gives}
 

@@ -27,7 +27,7 @@ use Rattle.js_frames.specs.declared.frame.Frame.TheVariants.{Waiting}
 use Rattle.js_frames.specs.Places.{Place, Beside, setting_at, state_at}
 use Rattle.js_frames.specs.Frames.{plain_completion, rest, resume, plug, step_outcome, future}
 use Rattle.js_frames.specs.Fits.{IsNode, AreNodes, HasForm, FrameFits, StackFits, StepFits}
-use Rattle.js_frames.specs.Leads.{Rests, Within, Leads, pushed, Keeps, IsSettled, Becomes, Picks, Gives, Gave, node_does, waits_for}
+use Rattle.js_frames.specs.inner.Leads.{Rests, Within, Leads, pushed, Keeps, IsSettled, Becomes, Picks, Gives, Gave, node_does, waits_for}
 
 -- the last frame takes the outcome first
 pub plug_pushed : (g : Setting) (st : List Frame) (f : Frame) (o : Outcome) → plug g (st ++ f ∷ []) o ≡ plug g st (resume g f o)

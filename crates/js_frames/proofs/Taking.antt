@@ -11,7 +11,7 @@ use Rattle.js_frames.specs.declared.step.Step.{Step}
 use Rattle.js_frames.specs.Places.{Place, Beside, setting_at, state_at}
 use Rattle.js_frames.specs.Frames.{parts_from, plug}
 use Rattle.js_frames.specs.Fits.{StackFits}
-use Rattle.js_frames.specs.Leads.{Rests, Within, Leads, Gave}
+use Rattle.js_frames.specs.inner.Leads.{Rests, Within, Leads, Gave}
 use Rattle.js_frames.proofs.Steps.{limits, within_like, within_trans, within_begun, on_ok}
 use Rattle.js_frames.proofs.InOrder.{parts_wait}
 

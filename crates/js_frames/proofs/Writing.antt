@@ -12,7 +12,7 @@ use Rattle.js_ops.specs.Answers.{AnswersAs}
 use Rattle.js_ops.specs.declared.op_fault.OpFault.{OpFault}
 use Rattle.js_ops.specs.declared.op_fault.OpFault.TheVariants as op_fault
 use Rattle.js_meaning.specs.State as js
-use Rattle.js_meaning.specs.State.{State, Outcome, answered, gives}
+use Rattle.js_meaning.specs.State.{State, Outcome, gives}
 use Rattle.js_meaning.specs.Variables.{if_declared, in_slot}
 use Rattle.js_meaning.specs.Expressions.{writes}
 use Rattle.js_frames.specs.declared.step.Step.{Step}
@@ -21,7 +21,7 @@ use Rattle.js_frames.specs.declared.step.Completion.TheVariants.{Normal}
 use Rattle.js_frames.specs.Places.{Place, state_at}
 use Rattle.js_frames.specs.Frames.{writes_behind}
 use Rattle.js_frames.specs.Fits.{StackFits}
-use Rattle.js_frames.specs.Leads.{Leads, FailsAs}
+use Rattle.js_frames.specs.inner.Leads.{Leads, FailsAs}
 use Rattle.js_frames.proofs.Steps.{completes_at, fails_at, moves, on_ok}
 
 module _ (base : js.Ground) (old : Place) (k line : ℕ) (fits : StackFits base.program old.stack) where

@@ -1,6 +1,5 @@
 pub mod Places
 pub mod Frames
 pub mod Fits
-pub mod Leads
-pub mod Reading
+pub mod inner
 pub mod Runs

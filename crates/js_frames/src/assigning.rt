@@ -14,7 +14,7 @@ ghost use Rattle.js_meaning.specs.Meaning.{eval};
 ghost use Rattle.js_frames.specs.Places.{here, place_of, plain_ground, held_at};
 ghost use Rattle.js_frames.specs.Frames.{writes_behind};
 ghost use Rattle.js_frames.specs.Fits.{StackFits, IsNode};
-ghost use Rattle.js_frames.specs.Leads.{Goes, Becomes};
+ghost use Rattle.js_frames.specs.inner.Leads.{Goes, Becomes};
 
 use crate::calls::function_of;
 use crate::engine::Engine;

@@ -5,7 +5,7 @@ ghost use Rattle.js_ops.specs.Made.{made};
 ghost use Rattle.js_meaning.specs.State.{answered};
 ghost use Rattle.js_frames.specs.Places.{here};
 ghost use Rattle.js_frames.specs.Fits.{StackFits, IsNode, HasForm, IsShort};
-ghost use Rattle.js_frames.specs.Leads.{Goes, Becomes, node_does, waits_for, operand_frame};
+ghost use Rattle.js_frames.specs.inner.Leads.{Goes, Becomes, node_does, waits_for, operand_frame};
 
 use crate::engine::Engine;
 use crate::frame::{Frame, Loop, Part};

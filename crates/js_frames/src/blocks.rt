@@ -6,7 +6,7 @@ ghost use Rattle.js_meaning.specs.Variables.{set_variable, undeclare};
 ghost use Rattle.js_frames.specs.Places.{here, place_of, put_at, undefined_at};
 ghost use Rattle.js_frames.specs.Frames.{statements_in, block_in, statements_of, sequence_from, declaring_from};
 ghost use Rattle.js_frames.specs.Fits.{StackFits, IsNode, AreNodes, SequenceFits, HasForm, IsDeclaration};
-ghost use Rattle.js_frames.specs.Leads.{Goes};
+ghost use Rattle.js_frames.specs.inner.Leads.{Goes};
 
 use crate::engine::Engine;
 use crate::frame::{Frame, Part, Sequence};

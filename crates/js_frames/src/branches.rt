@@ -6,7 +6,7 @@ ghost use Rattle.js_program.specs.PlainProgram.{PlainProgram};
 ghost use Rattle.js_meaning.specs.State.{gives, leaves};
 ghost use Rattle.js_meaning.specs.Meaning.{eval};
 ghost use Rattle.js_frames.specs.Fits.{IsNode};
-ghost use Rattle.js_frames.specs.Leads.{Picks};
+ghost use Rattle.js_frames.specs.inner.Leads.{Picks};
 
 use crate::step::{Step, give, leave};
 use js_value::{Value, truthy};

@@ -10,7 +10,7 @@ ghost use Rattle.js_meaning.specs.Meaning.{eval};
 ghost use Rattle.js_frames.specs.Places.{place_of, here, plain_effects};
 ghost use Rattle.js_frames.specs.Frames.{plain_completion, statements_in, statements_of};
 ghost use Rattle.js_frames.specs.Fits.{StackFits, AreNodes, SequenceFits};
-ghost use Rattle.js_frames.specs.Leads.{Goes, Gives, IsBegin, entered, first_of};
+ghost use Rattle.js_frames.specs.inner.Leads.{Goes, Gives, IsBegin, entered, first_of};
 
 use crate::engine::Engine;
 use crate::frame::{Frame, Part, Sequence};

@@ -1,7 +1,7 @@
 //! What a machine keeps between two steps.
 ghost use Rattle.std.specs.Prelude.{◌≡◌, [], None, IfOk, unwrap_or};
 ghost use Rattle.js_frames.specs.Places.{place_of, fresh};
-ghost use Rattle.js_frames.specs.Leads.{pushed};
+ghost use Rattle.js_frames.specs.inner.Leads.{pushed};
 
 use crate::effect::Effects;
 use crate::frame::Frame;

@@ -11,7 +11,7 @@ ghost use Rattle.js_frames.specs.Frames.{walk_from};
 ghost use Rattle.js_frames.specs.Fits.{StackFits, AreNodes};
 ghost use Rattle.js_program.specs.PlainProgram.{content_parts};
 ghost use Rattle.js_program.specs.Views.{plain_body, plain_content};
-ghost use Rattle.js_frames.specs.Leads.{Goes, first_of, AreElementArgs};
+ghost use Rattle.js_frames.specs.inner.Leads.{Goes, first_of, AreElementArgs};
 
 use crate::calls::{first_in, function_of};
 use crate::engine::Engine;

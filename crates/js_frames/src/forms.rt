@@ -8,7 +8,7 @@ ghost use Rattle.js_meaning.specs.State.{gives};
 ghost use Rattle.js_meaning.specs.Forms.{argument, does_to_run, registers_thread, asks, asserted, enqueues_event, sets_handler, log_text, logs, floors, takes_effect, applies_form};
 ghost use Rattle.js_frames.specs.Places.{here, plain_effect};
 ghost use Rattle.js_frames.specs.Fits.{StackFits};
-ghost use Rattle.js_frames.specs.Leads.{Goes, Becomes};
+ghost use Rattle.js_frames.specs.inner.Leads.{Goes, Becomes};
 
 use crate::effect::Effect;
 use crate::engine::Engine;

@@ -4,7 +4,7 @@ ghost use Rattle.js_meaning.specs.State.{went};
 ghost use Rattle.js_frames.specs.Places.{here};
 ghost use Rattle.js_frames.specs.Frames.{plain_completion, rest, resume};
 ghost use Rattle.js_frames.specs.Fits.{StackFits, PartFits, FrameFits};
-ghost use Rattle.js_frames.specs.Leads.{Goes};
+ghost use Rattle.js_frames.specs.inner.Leads.{Goes};
 
 use crate::branches::{and, choose, or, when};
 use crate::engine::Engine;

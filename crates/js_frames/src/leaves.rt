@@ -3,7 +3,7 @@ ghost use Rattle.std.specs.Prelude.{◌≡◌, ◌≤◌, ◌⊎◌, IfOk, IfSom
 ghost use Rattle.js_value.specs.Views.{plain_value};
 ghost use Rattle.js_frames.specs.Places.{plain_ground, place_of, here};
 ghost use Rattle.js_frames.specs.Fits.{StackFits, IsNode, HasForm, IsShort, IsDouble};
-ghost use Rattle.js_frames.specs.Leads.{Goes, leaf_of, Gave, waits_for};
+ghost use Rattle.js_frames.specs.inner.Leads.{Goes, leaf_of, Gave, waits_for};
 
 use crate::engine::Engine;
 use crate::frame::{Frame, Part};

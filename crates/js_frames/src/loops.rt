@@ -7,7 +7,7 @@ ghost use Rattle.js_meaning.specs.Meaning.{eval};
 ghost use Rattle.js_frames.specs.Places.{here};
 ghost use Rattle.js_frames.specs.Frames.{plain_completion, rest, again, resume, loop, starts_loop, items_from};
 ghost use Rattle.js_frames.specs.Fits.{StackFits, IsNode, IsPerhapsNode, LoopFits, IterationFits};
-ghost use Rattle.js_frames.specs.Leads.{Goes};
+ghost use Rattle.js_frames.specs.inner.Leads.{Goes};
 
 use crate::engine::Engine;
 use crate::frame::{Frame, Iteration, Loop, Part};

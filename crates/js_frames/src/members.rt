@@ -10,8 +10,8 @@ ghost use Rattle.js_ops.specs.Members.{member_of, extra_value, field_or_undefine
 ghost use Rattle.js_program.specs.Views.{plain_node};
 ghost use Rattle.js_frames.specs.Places.{plain_ground, place_of, here};
 ghost use Rattle.js_frames.specs.Fits.{StackFits, IsNode};
-ghost use Rattle.js_frames.specs.Leads.{Goes, node_does};
-ghost use Rattle.js_frames.specs.Reading.{GaveData};
+ghost use Rattle.js_frames.specs.inner.Leads.{Goes, node_does};
+ghost use Rattle.js_frames.specs.inner.Reading.{GaveData};
 
 use crate::engine::Engine;
 use crate::ground::Ground;

@@ -18,7 +18,7 @@ ghost use Rattle.js_meaning.specs.Meaning.{eval};
 ghost use Rattle.js_frames.specs.Places.{here};
 ghost use Rattle.js_frames.specs.Frames.{parts_from};
 ghost use Rattle.js_frames.specs.Fits.{StackFits, IsNode, HasForm, IsShort, IsDouble, IsLong};
-ghost use Rattle.js_frames.specs.Leads.{Goes, Becomes};
+ghost use Rattle.js_frames.specs.inner.Leads.{Goes, Becomes};
 
 use crate::engine::Engine;
 use crate::frame::{Frame, Part};

@@ -2,7 +2,7 @@
 ghost use Rattle.std.specs.Prelude.{ℕ, IfOk};
 ghost use Rattle.js_frames.specs.Places.{plain_ground, place_of};
 ghost use Rattle.js_frames.specs.Fits.{StackFits, StepFits};
-ghost use Rattle.js_frames.specs.Leads.{Keeps, IsSettled, Advanced};
+ghost use Rattle.js_frames.specs.inner.Leads.{Keeps, IsSettled, Advanced};
 
 use crate::engine::Engine;
 use crate::ground::Ground;

@@ -4,7 +4,7 @@ ghost use Rattle.js_data.specs.declared.fault.Fault.TheVariants as fault;
 ghost use Rattle.js_ops.specs.Answers.{AnswersAs};
 ghost use Rattle.js_ops.specs.Made.{Answer};
 ghost use Rattle.js_meaning.specs.State.{answered};
-ghost use Rattle.js_frames.specs.Leads.{Becomes, FailsAs};
+ghost use Rattle.js_frames.specs.inner.Leads.{Becomes, FailsAs};
 
 use js_data::{Fault, Memory, Text};
 use js_ops::OpFault;

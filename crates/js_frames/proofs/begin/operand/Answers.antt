@@ -1,5 +1,5 @@
 use Rattle.std.proofs.Common.{sym, ap}
-use Rattle.js_frames.specs.Leads.{operand_frame}
+use Rattle.js_frames.specs.inner.Leads.{operand_frame}
 use Rattle.js_frames.proofs.Beginning.{operand_other}
 use Rattle.js_frames.proofs.begin.operand.Goals as goal
 

@@ -5,7 +5,7 @@ use Rattle.js_frames.specs.declared.step.Step.{Step}
 use Rattle.js_frames.specs.declared.step.Step.TheVariants.{Begin, Give, Ask, Fail, Violate}
 use Rattle.js_frames.specs.Places.{Place, plain_ground, place_of}
 use Rattle.js_frames.specs.Frames.{future}
-use Rattle.js_frames.specs.Leads.{Within, Keeps, Ran, IsHeld, IsSettled, Advanced}
+use Rattle.js_frames.specs.inner.Leads.{Within, Keeps, Ran, IsHeld, IsSettled, Advanced}
 use Rattle.js_frames.proofs.Steps.{begun_one}
 use Rattle.js_frames.proofs.engine.Engine.advance.Goals as goal
 

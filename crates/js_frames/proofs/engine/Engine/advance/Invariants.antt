@@ -1,6 +1,6 @@
 use Rattle.std.proofs.Common.{◌-◌}
 use Rattle.js_frames.specs.Places.{plain_ground, place_of}
-use Rattle.js_frames.specs.Leads.{Keeps}
+use Rattle.js_frames.specs.inner.Leads.{Keeps}
 use Rattle.js_frames.specs.declared.step.Step.TheVariants.{Begin}
 use Rattle.js_frames.proofs.engine.Engine.advance.Given as goal
 

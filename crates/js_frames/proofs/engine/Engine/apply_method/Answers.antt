@@ -3,7 +3,7 @@ use Rattle.js_value.specs.Views.{plain_value}
 use Rattle.js_ops.specs.Methods.{method_named}
 use Rattle.js_meaning.specs.Calls.{applies}
 use Rattle.js_frames.specs.Places.{plain_ground, place_of}
-use Rattle.js_frames.specs.Leads.{Leads}
+use Rattle.js_frames.specs.inner.Leads.{Leads}
 use Rattle.js_frames.proofs.Steps.{becomes}
 use Rattle.js_frames.proofs.engine.Engine.apply_method.Goals as goal
 

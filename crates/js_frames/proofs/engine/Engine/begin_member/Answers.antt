@@ -8,8 +8,8 @@ use Rattle.js_frames.specs.declared.frame.Frame.TheVariants.{Waiting}
 use Rattle.js_frames.specs.Places.{Place, plain_ground, place_of, setting_at, here}
 use Rattle.js_frames.specs.Frames.{rest}
 use Rattle.js_frames.specs.Fits.{IsShort, StackFits}
-use Rattle.js_frames.specs.Leads.{Leads, waits_for}
-use Rattle.js_frames.specs.Reading.{GaveData}
+use Rattle.js_frames.specs.inner.Leads.{Leads, waits_for}
+use Rattle.js_frames.specs.inner.Reading.{GaveData}
 use Rattle.js_frames.proofs.Steps.{becomes_ok, begin_means, has_form}
 use Rattle.js_frames.proofs.Beginning.{parts_with, short_begins}
 use Rattle.js_frames.proofs.Reading.{data_fits, data_on}

@@ -3,7 +3,7 @@ use Rattle.std.specs.Prelude.{slice_get, IfOk}
 use Rattle.js_frames.specs.Places.{Place, plain_ground, place_of, setting_at, here}
 use Rattle.js_frames.specs.Frames.{parts_from}
 use Rattle.js_frames.specs.Fits.{StackFits}
-use Rattle.js_frames.specs.Leads.{Leads}
+use Rattle.js_frames.specs.inner.Leads.{Leads}
 use Rattle.js_frames.proofs.Steps.{means_ok}
 use Rattle.js_frames.proofs.engine.Engine.begin_parts.Goals as goal
 

@@ -5,7 +5,7 @@ use Rattle.js_frames.specs.declared.frame.Part.TheVariants.{Second}
 use Rattle.js_frames.specs.declared.frame.Frame.TheVariants.{Waiting}
 use Rattle.js_frames.specs.Places.{plain_ground, place_of}
 use Rattle.js_frames.specs.Frames.{rest}
-use Rattle.js_frames.specs.Leads.{Gave}
+use Rattle.js_frames.specs.inner.Leads.{Gave}
 use Rattle.js_frames.proofs.Steps.{gave_fits, gave_on, waits_still}
 use Rattle.js_frames.proofs.engine.Engine.begin_second.Goals as goal
 

@@ -3,7 +3,7 @@ use Rattle.std.specs.Prelude.{IfOk}
 use Rattle.js_meaning.specs.Calls.{calls}
 use Rattle.js_meaning.specs.Meaning.{eval}
 use Rattle.js_frames.specs.Places.{plain_ground, place_of, here}
-use Rattle.js_frames.specs.Leads.{Leads}
+use Rattle.js_frames.specs.inner.Leads.{Leads}
 use Rattle.js_frames.proofs.Writing.{failed_never, value_answered}
 use Rattle.js_frames.proofs.engine.Engine.call_field.Goals as goal
 

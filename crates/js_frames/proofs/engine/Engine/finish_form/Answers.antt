@@ -1,7 +1,7 @@
 use Rattle.std.proofs.Common.{sym, subst}
 use Rattle.js_meaning.specs.Forms.{takes_effect}
 use Rattle.js_frames.specs.Places.{plain_ground, place_of}
-use Rattle.js_frames.specs.Leads.{Leads}
+use Rattle.js_frames.specs.inner.Leads.{Leads}
 use Rattle.js_frames.proofs.engine.Engine.finish_form.Goals as goal
 
 pub returns : goal.returns

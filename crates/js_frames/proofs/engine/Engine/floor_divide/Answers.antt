@@ -6,7 +6,7 @@ use Rattle.js_ops.specs.Operators.{value_of}
 use Rattle.js_meaning.specs.State.{answered}
 use Rattle.js_meaning.specs.Forms.{argument}
 use Rattle.js_frames.specs.Places.{plain_ground, place_of}
-use Rattle.js_frames.specs.Leads.{Leads}
+use Rattle.js_frames.specs.inner.Leads.{Leads}
 use Rattle.js_frames.proofs.Lists.{argument_taken}
 use Rattle.js_frames.proofs.Steps.{becomes_ok}
 use Rattle.js_frames.proofs.engine.Engine.floor_divide.Goals as goal

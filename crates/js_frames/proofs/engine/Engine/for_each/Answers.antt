@@ -3,7 +3,7 @@ use Rattle.std.specs.Prelude.{IfOk}
 use Rattle.js_meaning.specs.Calls.{for_each_call}
 use Rattle.js_meaning.specs.Meaning.{eval}
 use Rattle.js_frames.specs.Places.{Place, plain_ground, place_of, setting_at}
-use Rattle.js_frames.specs.Leads.{Leads}
+use Rattle.js_frames.specs.inner.Leads.{Leads}
 use Rattle.js_frames.specs.Fits.{StackFits}
 use Rattle.js_frames.specs.Frames.{step_outcome, walk_from}
 use Rattle.js_frames.proofs.Steps.{means_ok, stays}

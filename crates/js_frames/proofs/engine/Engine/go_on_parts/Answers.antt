@@ -7,7 +7,7 @@ use Rattle.js_frames.specs.declared.frame.Part.TheVariants.{Further}
 use Rattle.js_frames.specs.declared.frame.Frame.TheVariants.{Waiting}
 use Rattle.js_frames.specs.Places.{Place, plain_ground, place_of, setting_at}
 use Rattle.js_frames.specs.Frames.{rest, resume}
-use Rattle.js_frames.specs.Leads.{Gave}
+use Rattle.js_frames.specs.inner.Leads.{Gave}
 use Rattle.js_frames.proofs.Steps.{waits_still, means_ok}
 use Rattle.js_frames.proofs.InOrder.{parts_wait, parts_done}
 use Rattle.js_frames.proofs.Taking.{Onto, onto_first, onto_next, onto_leads, onto_fits}

@@ -1,7 +1,7 @@
 use Rattle.std.proofs.Common.{sym, ap, ◌∙◌, subst}
 use Rattle.js_meaning.specs.Forms.{argument, log_text, logs}
 use Rattle.js_frames.specs.Places.{plain_ground, place_of}
-use Rattle.js_frames.specs.Leads.{Leads}
+use Rattle.js_frames.specs.inner.Leads.{Leads}
 use Rattle.js_frames.specs.Frames.{step_outcome}
 use Rattle.js_frames.proofs.Steps.{means_ok, stays}
 use Rattle.js_frames.proofs.engine.Engine.log.Goals as goal

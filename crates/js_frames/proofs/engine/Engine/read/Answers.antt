@@ -4,7 +4,7 @@ use Rattle.js_meaning.specs.Variables.{if_declared, held}
 use Rattle.js_data.specs.declared.fault.Fault.TheVariants as fault
 use Rattle.js_frames.specs.declared.step.Completion.TheVariants.{Normal}
 use Rattle.js_frames.specs.Places.{plain_ground, place_of, state_at}
-use Rattle.js_frames.specs.Leads.{Leads}
+use Rattle.js_frames.specs.inner.Leads.{Leads}
 use Rattle.js_frames.proofs.Steps.{fails_at, completes_at}
 use Rattle.js_frames.proofs.Declaring.{held_here}
 use Rattle.js_frames.proofs.engine.Engine.read.Goals as goal

@@ -3,7 +3,7 @@ use Rattle.js_value.specs.Value as v
 use Rattle.js_value.specs.Views.{plain_value}
 use Rattle.js_meaning.specs.Forms.{registers_thread}
 use Rattle.js_frames.specs.Places.{plain_ground, place_of}
-use Rattle.js_frames.specs.Leads.{Leads}
+use Rattle.js_frames.specs.inner.Leads.{Leads}
 use Rattle.js_frames.specs.Frames.{step_outcome}
 use Rattle.js_frames.proofs.Steps.{means_ok, stays}
 use Rattle.js_frames.proofs.Acting.{no_name}

@@ -2,7 +2,7 @@ use Rattle.std.proofs.Common.{ap, subst}
 use Rattle.js_frames.specs.declared.step.Step.TheVariants.{Give}
 use Rattle.js_frames.specs.Places.{plain_ground, place_of}
 use Rattle.js_frames.specs.Fits.{StackFits}
-use Rattle.js_frames.specs.Leads.{Keeps}
+use Rattle.js_frames.specs.inner.Leads.{Keeps}
 use Rattle.js_frames.proofs.Steps.{gives_on, settled_unless, fits_below, fits_last}
 use Rattle.js_frames.proofs.engine.Engine.unwind.Goals as goal
 

@@ -1,7 +1,7 @@
 use Rattle.std.proofs.Common.{vec_len}
 use Rattle.js_frames.specs.declared.step.Step.TheVariants.{Give}
 use Rattle.js_frames.specs.Places.{plain_ground, place_of}
-use Rattle.js_frames.specs.Leads.{Keeps}
+use Rattle.js_frames.specs.inner.Leads.{Keeps}
 use Rattle.js_frames.proofs.engine.Engine.unwind.Given as goal
 
 abbrev pub invariant-loop-frame : goal.invariant-loop-frame

@@ -5,7 +5,7 @@ use Rattle.js_ops.specs.Answers.{AnswersAs}
 use Rattle.js_ops.specs.Operators.{unary_of}
 use Rattle.js_meaning.specs.Expressions.{step_for, updates}
 use Rattle.js_frames.specs.Places.{plain_ground, place_of}
-use Rattle.js_frames.specs.Leads.{Leads}
+use Rattle.js_frames.specs.inner.Leads.{Leads}
 use Rattle.js_frames.proofs.Steps.{on_ok}
 use Rattle.js_frames.proofs.Writing.{early, declared_goes}
 use Rattle.js_frames.proofs.engine.Engine.update.Goals as goal

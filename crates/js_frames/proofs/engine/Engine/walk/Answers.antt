@@ -3,7 +3,7 @@ use Rattle.std.proofs.lemmas.Bool.{lt-ltb, le-ltb}
 use Rattle.std.specs.Prelude.{◌<◌, unwrap_or, IsSome, IfOk}
 use Rattle.js_program.specs.PlainProgram.{PlainBody}
 use Rattle.js_meaning.specs.Calls.{no_body}
-use Rattle.js_frames.specs.Leads.{Leads, first_of}
+use Rattle.js_frames.specs.inner.Leads.{Leads, first_of}
 use Rattle.js_frames.specs.Places.{Place, plain_ground, place_of, setting_at}
 use Rattle.js_frames.specs.Frames.{walk_from}
 use Rattle.js_frames.specs.Fits.{StackFits}

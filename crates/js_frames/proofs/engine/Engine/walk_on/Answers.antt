@@ -9,7 +9,7 @@ use Rattle.js_meaning.specs.Meaning.{eval}
 use Rattle.js_frames.specs.Places.{plain_ground, place_of, setting_at}
 use Rattle.js_frames.specs.Fits.{StackFits}
 use Rattle.js_frames.proofs.Numbers.{function_statements}
-use Rattle.js_frames.specs.Leads.{Leads}
+use Rattle.js_frames.specs.inner.Leads.{Leads}
 use Rattle.js_frames.proofs.Steps.{means_ok, fits_pushed}
 use Rattle.js_frames.proofs.Calling.{walks_on}
 use Rattle.js_frames.proofs.engine.Engine.walk_on.Goals as goal

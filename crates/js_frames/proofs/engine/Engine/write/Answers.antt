@@ -2,7 +2,7 @@ use Rattle.std.proofs.Common.{refl, sym, subst}
 use Rattle.js_ops.specs.Answers.{AnswersAs}
 use Rattle.js_meaning.specs.Expressions.{writes}
 use Rattle.js_frames.specs.Places.{plain_ground, place_of}
-use Rattle.js_frames.specs.Leads.{Leads}
+use Rattle.js_frames.specs.inner.Leads.{Leads}
 use Rattle.js_frames.proofs.Writing.{written, failed_goes}
 use Rattle.js_frames.proofs.engine.Engine.write.Goals as goal
 

@@ -1,0 +1,3 @@
+-- What the contracts inside of this crate cite, and nothing that a command is promised by.
+pub mod Leads
+pub mod Reading
