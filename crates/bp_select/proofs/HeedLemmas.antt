@@ -342,11 +342,12 @@ all_noted ts r changed h = each_map (λ t. IsNoted r t) (λ t. (is_in t.number c
 pub all_changed : (ts : List (Live PlainSet)) (r : PlainRoll) (changed : List ℕ) → Each (λ t. is_in t.number changed ≡ true) ts → AreNoted ts r changed
 all_changed ts r changed h = each_map (λ t. is_in t.number changed ≡ true) (λ t. (is_in t.number changed ≡ true) ⊎ IsNoted r t) ts (λ t w. inl w) h
 
-pub notes_more : (ts : List (Live PlainSet)) (r : PlainRoll) (changed numbers : List ℕ) (n : ℕ) → numbers ≡ changed ++ n ∷ [] → AreNoted ts r changed → AreNoted ts r numbers
-notes_more ts r changed numbers n q h = each_map (λ t. (is_in t.number changed ≡ true) ⊎ IsNoted r t) (λ t. (is_in t.number numbers ≡ true) ⊎ IsNoted r t) ts (λ t w. by t w) h
+-- more may have changed
+pub notes_more : (ts : List (Live PlainSet)) (r : PlainRoll) (changed numbers : List ℕ) → ((n : ℕ) → is_in n changed ≡ true → is_in n numbers ≡ true) → AreNoted ts r changed → AreNoted ts r numbers
+notes_more ts r changed numbers q h = each_map (λ t. (is_in t.number changed ≡ true) ⊎ IsNoted r t) (λ t. (is_in t.number numbers ≡ true) ⊎ IsNoted r t) ts (λ t w. by t w) h
   where
     by : (t : Live PlainSet) → (is_in t.number changed ≡ true) ⊎ IsNoted r t → (is_in t.number numbers ≡ true) ⊎ IsNoted r t
-    by t (inl c) = inl (ap (λ (xs : List ℕ). is_in t.number xs) q ∙ in_pushed t.number n changed c)
+    by t (inl c) = inl (q t.number c)
     by t (inr c) = inr c
 
 -- ---- the numbers of b-threads
@@ -368,26 +369,26 @@ numbers_all all i ns low h = subst (λ (xs : List Stated). Each (λ t. is_in t.n
 -- ---- one is placed
 
 pub kept_more : (n : ℕ) (ts us : List (Live PlainSet)) (sets : Sets) (changed numbers : List ℕ) (old new : heeds.Heeds) → us ≡ ts → numbers ≡ changed ++ n ∷ [] →
-    ((vs : List (Live PlainSet)) → WhereWhole old.whole vs old.roll old.changed.items → WhereWhole new.whole vs new.roll new.changed.items) → AreKept ts sets changed old → AreKept us sets numbers new
+    ((vs : List (Live PlainSet)) → WhereWhole old.whole vs old.roll old.changed → WhereWhole new.whole vs new.roll new.changed) → AreKept ts sets changed old → AreKept us sets numbers new
 kept_more n ts us sets changed numbers old new e q others k = record {
   blocking = subst (λ (xs : List ℕ). AreOfUnchanged us sets xs) (sym q) (noted_more n ts us sets changed e k.blocking);
-  heeding = others us (subst (λ (xs : List (Live PlainSet)). WhereWhole old.whole xs old.roll old.changed.items) (sym e) k.heeding);
+  heeding = others us (subst (λ (xs : List (Live PlainSet)). WhereWhole old.whole xs old.roll old.changed) (sym e) k.heeding);
 }
 
 -- whether or not memory ran out
 pub kept_placed : {E : Type 0} (n : ℕ) (o : Option (Statement PlainSet)) (ts us : List (Live PlainSet)) (sets : Sets) (changed numbers : List ℕ) (old new : heeds.Heeds) (r : Result (Unit {0}) E) → OnOk r (us ≡ placed n o ts) → OnErr r (us ≡ ts) →
-    numbers ≡ changed ++ n ∷ [] → (new.whole ≡ true → is_in n new.changed.items ≡ true) →
-    ((vs : List (Live PlainSet)) → WhereWhole old.whole vs old.roll old.changed.items → WhereWhole new.whole vs new.roll new.changed.items) → AreKept ts sets changed old → AreKept us sets numbers new
+    numbers ≡ changed ++ n ∷ [] → (new.whole ≡ true → is_in n new.changed ≡ true) →
+    ((vs : List (Live PlainSet)) → WhereWhole old.whole vs old.roll old.changed → WhereWhole new.whole vs new.roll new.changed) → AreKept ts sets changed old → AreKept us sets numbers new
 kept_placed {E} n o ts us sets changed numbers old new r h k q noted others was = record {
   blocking = noted_placed n o ts us sets changed numbers r h k q was.blocking;
   heeding = λ w. by r h k w;
 }
   where
-    by : (r : Result (Unit {0}) E) → OnOk r (us ≡ placed n o ts) → OnErr r (us ≡ ts) → new.whole ≡ true → AreNoted us new.roll new.changed.items
+    by : (r : Result (Unit {0}) E) → OnOk r (us ≡ placed n o ts) → OnErr r (us ≡ ts) → new.whole ≡ true → AreNoted us new.roll new.changed
     by (Ok x) h k w =
-        subst (λ (xs : List (Live PlainSet)). AreNoted xs new.roll new.changed.items) (sym h)
-        (each_placed (λ t. (is_in t.number new.changed.items ≡ true) ⊎ IsNoted new.roll t) n o (λ t e. inl (subst (λ (m : ℕ). is_in m new.changed.items ≡ true) (sym e) (noted w))) ts (others ts was.heeding w))
-    by (Err x) h k w = subst (λ (xs : List (Live PlainSet)). AreNoted xs new.roll new.changed.items) (sym k) (others ts was.heeding w)
+        subst (λ (xs : List (Live PlainSet)). AreNoted xs new.roll new.changed) (sym h)
+        (each_placed (λ t. (is_in t.number new.changed ≡ true) ⊎ IsNoted new.roll t) n o (λ t e. inl (subst (λ (m : ℕ). is_in m new.changed ≡ true) (sym e) (noted w))) ts (others ts was.heeding w))
+    by (Err x) h k w = subst (λ (xs : List (Live PlainSet)). AreNoted xs new.roll new.changed) (sym k) (others ts was.heeding w)
 
 pub noted_when : {E : Type 0} (r : Result (Unit {0}) E) (ts : List (Live PlainSet)) (ks : List ℕ) (roll : PlainRoll) (n : ℕ) → OnOk r ((k : ℕ) → is_in k ks ≡ true → is_noted roll k n ≡ true) → Each (λ t. t.number ≡ n → HeedsAt (λ k. is_in k ks) t) ts →
     OnOk r (Each (λ t. t.number ≡ n → IsNoted roll t) ts)

@@ -98,11 +98,11 @@ rest_of : (n i : ℕ) (ns : List ℕ) → Contains (n ∷ ns) i → (n ≢ i) �
 rest_of n i ns (zero, low, e) h = absurd (h e)
 rest_of n i ns (suc k, low, e) h = (k, omega (arith, low), e)
 
--- the sets of this many numbers are those of the b-threads
-pub record AreSettled (ts : List (Live PlainSet)) (sets : Sets) (changed : List ℕ) (at : ℕ) : Type 0 where
+-- the sets of the numbers before this place are those of the b-threads
+pub record AreSettledBefore (ts : List (Live PlainSet)) (sets : Sets) (changed : List ℕ) (at : ℕ) : Type 0 where
   pub each : (n : ℕ) → Contains (drop at changed) n ⊎ (sets n ≡ block_at ts n)
 
-pub settled_none : (ts : List (Live PlainSet)) (sets : Sets) (changed : List ℕ) → AreOfUnchanged ts sets changed → AreSettled ts sets changed 0
+pub settled_none : (ts : List (Live PlainSet)) (sets : Sets) (changed : List ℕ) → AreOfUnchanged ts sets changed → AreSettledBefore ts sets changed 0
 settled_none ts sets changed h = record { each = h.each }
 
 module _ (ts : List (Live PlainSet)) (old new : Sets) (changed : List ℕ) (at number : ℕ) (low : at < length changed) (is : number ≡ get_or changed at number)
@@ -110,7 +110,7 @@ module _ (ts : List (Live PlainSet)) (old new : Sets) (changed : List ℕ) (at n
   apart : (n : ℕ) → nat_eq number n ≡ false → number ≢ n
   apart n h q = (let t : nat_eq number n ≡ true = eq-eqb number n q in cc)
 
-  pub settled_step : new number ≡ block_at ts number → AreSettled ts old changed at → AreSettled ts new changed (at + 1)
+  pub settled_step : new number ≡ block_at ts number → AreSettledBefore ts old changed at → AreSettledBefore ts new changed (at + 1)
   settled_step mine h = record { each = λ n. by n (nat_eq number n) refl (h.each n) }
     where
       by : (n : ℕ) (b : Bool) → nat_eq number n ≡ b → Contains (drop at changed) n ⊎ (old n ≡ block_at ts n) → Contains (drop (at + 1) changed) n ⊎ (new n ≡ block_at ts n)
@@ -120,7 +120,7 @@ module _ (ts : List (Live PlainSet)) (old new : Sets) (changed : List ℕ) (at n
           inl (rest_of number n (drop (at + 1) changed) (subst (λ (ns : List ℕ). Contains ns n) first c) (apart n e))
       by n false e (inr w) = inr (others n e ∙ w)
 
-  pub settled_fault : AreSettled ts old changed at → AreOfUnchanged ts new changed
+  pub settled_fault : AreSettledBefore ts old changed at → AreOfUnchanged ts new changed
   settled_fault h = record { each = λ n. by n (nat_eq number n) refl (h.each n) }
     where
       by : (n : ℕ) (b : Bool) → nat_eq number n ≡ b → Contains (drop at changed) n ⊎ (old n ≡ block_at ts n) → Contains changed n ⊎ (new n ≡ block_at ts n)
@@ -128,7 +128,7 @@ module _ (ts : List (Live PlainSet)) (old new : Sets) (changed : List ℕ) (at n
       by n false e (inl c) = inl (subst (λ (ns : List ℕ). Contains ns n) (take-append-drop at changed) (Contains-append_right (take at changed) (drop at changed) n c))
       by n false e (inr w) = inr (others n e ∙ w)
 
-pub settled_all : (ts : List (Live PlainSet)) (sets : Sets) (changed : List ℕ) (at : ℕ) → length changed ≤ at → AreSettled ts sets changed at → AreOf ts sets
+pub settled_all : (ts : List (Live PlainSet)) (sets : Sets) (changed : List ℕ) (at : ℕ) → length changed ≤ at → AreSettledBefore ts sets changed at → AreOf ts sets
 settled_all ts sets changed at low h = record { each = λ n. by n (h.each n) }
   where
     by : (n : ℕ) → Contains (drop at changed) n ⊎ (sets n ≡ block_at ts n) → sets n ≡ block_at ts n

@@ -1,5 +1,5 @@
 -- What remains under a strategy.
-use Rattle.std.proofs.Common.{◌≡◌, ℕ, ◌+◌, ◌<◌, ◌≤◌, arith, Bool, true, false, not, ◌&&◌, leb, ltb, List, [], ◌∷◌, length, map, drop, get_or, refl, ap, sym, ◌∙◌, cond, if◌then◌else◌, Option, Some, None}
+use Rattle.std.proofs.Common.{◌≡◌, ℕ, ◌+◌, ◌<◌, ◌≤◌, arith, Bool, true, false, not, ◌&&◌, leb, ltb, List, length, map, drop, get_or, refl, ap, sym, ◌∙◌, cond, if◌then◌else◌, Option, Some, None}
 use Rattle.std.specs.Prelude.{ℤ, pos, negsuc, int_le}
 use Rattle.std.specs.Int.{int_max}
 use Rattle.std.specs.List.{list_all}

@@ -24,7 +24,7 @@ use crate::placing::{is_at, place_of};
 use crate::reaching::{reach, reach_at};
 use crate::{Reach, SelectFault};
 use bp_log::Memory;
-use bp_roll::Roll;
+use bp_roll::{Changes, Roll};
 use js_data::Event;
 use js_frames::Ground;
 use std::alloc::Global;
@@ -42,7 +42,7 @@ pub(crate) struct Heeds {
     /// Who is noted under which keys.
     pub roll: Roll,
     /// The numbers whose statements may have changed since they were noted.
-    pub changed: Vec<u32>,
+    pub changed: Changes,
     /// Whether all others are noted.
     pub whole: bool,
 }
@@ -205,7 +205,7 @@ impl Heeds {
     {
         Heeds {
             roll: Roll::new(alloc),
-            changed: Vec::new(alloc),
+            changed: Changes::new(alloc),
             whole: false,
         }
     }
@@ -213,13 +213,13 @@ impl Heeds {
     /// The statement of the b-thread of this number may change.
     pub fn note(&mut self, number: u32) -> Result<(), Memory>
         ensures noted { OnOk result
-            (self.new.whole ≡ true → is_in number self.new.changed.items ≡ true) }
+            (self.new.whole ≡ true → is_in number self.new.changed ≡ true) }
         ensures others { (ts : List (Live PlainSet)) →
-            WhereWhole self.old.whole ts self.old.roll self.old.changed.items →
-            WhereWhole self.new.whole ts self.new.roll self.new.changed.items }
+            WhereWhole self.old.whole ts self.old.roll self.old.changed →
+            WhereWhole self.new.whole ts self.new.roll self.new.changed }
     {
         if self.whole {
-            self.changed.push(number)?;
+            self.changed.note(number)?;
         }
         Ok(())
     }
@@ -233,18 +233,18 @@ impl Heeds {
     /// All are noted anew, or are among the changed, if they were not.
     fn begin(&mut self, alloc: Global, live: &[Stated]) -> Result<(), Memory>
         requires { WhereWhole self.old.whole (map live_of live.now) self.old.roll
-            self.old.changed.items }
+            self.old.changed }
         ensures noted { OnOk result
-            (AreNoted (map live_of live.now) self.new.roll self.new.changed.items) }
+            (AreNoted (map live_of live.now) self.new.roll self.new.changed) }
         ensures still { WhereWhole self.new.whole (map live_of live.now) self.new.roll
-            self.new.changed.items }
+            self.new.changed }
     {
         if self.whole {
             return Ok(());
         }
         let numbers = numbers_of(alloc, live)?;
         self.roll = Roll::new(alloc);
-        self.changed = numbers;
+        self.changed = Changes::noting(numbers);
         self.whole = true;
         Ok(())
     }
@@ -252,9 +252,9 @@ impl Heeds {
     /// The changed are noted as they are now.
     fn settle(&mut self, alloc: Global, live: &[Stated]) -> Result<(), Memory>
         requires order { AreInOrder (map live_of live.now) }
-        requires noted { AreNoted (map live_of live.now) self.old.roll self.old.changed.items }
+        requires noted { AreNoted (map live_of live.now) self.old.roll self.old.changed }
         ensures settled { OnOk result (Each (λ t. IsNoted self.new.roll t) (map live_of live.now)) }
-        ensures noted { AreNoted (map live_of live.now) self.new.roll self.new.changed.items }
+        ensures noted { AreNoted (map live_of live.now) self.new.roll self.new.changed }
         ensures whole { self.new.whole ≡ self.old.whole }
     {
         settle_all(alloc, live, &mut self.roll, self.changed.as_slice())?;
@@ -274,11 +274,11 @@ impl Heeds {
     pub fn are_many(&mut self, alloc: Global, live: &[Stated]) -> Result<bool, Memory>
         requires order { AreInOrder (map live_of live.now) }
         requires noted { WhereWhole self.old.whole (map live_of live.now) self.old.roll
-            self.old.changed.items }
+            self.old.changed }
         ensures settled { IfOk result (λ b. b ≡ true →
             Each (λ t. IsNoted self.new.roll t) (map live_of live.now)) }
         ensures noted { WhereWhole self.new.whole (map live_of live.now) self.new.roll
-            self.new.changed.items }
+            self.new.changed }
     {
         if !self.is_worth(live.len()) {
             return Ok(false);
@@ -298,13 +298,13 @@ impl Heeds {
     ) -> Result<Vec<&'a Stated>, Memory>
         requires order { AreInOrder (map live_of live.now) }
         requires noted { WhereWhole self.old.whole (map live_of live.now) self.old.roll
-            self.old.changed.items }
+            self.old.changed }
         ensures asking { IfOk result
             (λ l. IsPart asks_nothing (map lent l.items) (map live_of live.now)) }
         ensures settled { IfOk result (λ l. self.new.whole ≡ true →
             Each (λ t. IsNoted self.new.roll t) (map live_of live.now)) }
         ensures noted { WhereWhole self.new.whole (map live_of live.now) self.new.roll
-            self.new.changed.items }
+            self.new.changed }
     {
         if !self.is_worth(live.len()) {
             self.rest();
@@ -340,12 +340,12 @@ impl Heeds {
     ) -> Result<Reach, SelectFault>
         requires order { AreInOrder (map live_of live.now) }
         requires noted { WhereWhole self.old.whole (map live_of live.now) self.old.roll
-            self.old.changed.items }
+            self.old.changed }
         ensures reached { AnswersReach
             (reach (member (plain_ground ground.now) budget) event.now (map live_of live.now))
             result }
         ensures noted { WhereWhole self.new.whole (map live_of live.now) self.new.roll
-            self.new.changed.items }
+            self.new.changed }
     {
         if !self.is_worth(live.len()) {
             self.rest();

@@ -325,11 +325,11 @@ pub(crate) fn enabled(
     requires few { length queue.now < 2 ^ 32 }
     requires settled { AreSettled (plain_ground ground.now) budget (map live_of live.now) blocks.old }
     requires noted { WhereWhole heeds.old.whole (map live_of live.now) heeds.old.roll
-        heeds.old.changed.items }
+        heeds.old.changed }
     ensures enabled { let has = member (plain_ground ground.now) budget in
         AnswersAs enabled_of (selectable has (map live_of live.now) queue.now) result }
     ensures noted { WhereWhole heeds.new.whole (map live_of live.now) heeds.new.roll
-        heeds.new.changed.items }
+        heeds.new.changed }
     ensures sets { blocks.new.sets ≡ blocks.old.sets }
     ensures settled { AreSettled (plain_ground ground.now) budget (map live_of live.now) blocks.new }
 {
@@ -355,7 +355,7 @@ fn choose_of_all(
     requires words { draw.old.drawn + 1 < 2 ^ 64 }
     requires settled { AreSettled (plain_ground ground.now) budget (map live_of live.now) blocks.old }
     requires noted { WhereWhole heeds.old.whole (map live_of live.now) heeds.old.roll
-        heeds.old.changed.items }
+        heeds.old.changed }
     ensures chosen { AnswersAs (chosen_of queue.now draw.new.drawn)
         (choice (member (plain_ground ground.now) budget) (draw_word draw.old.seed) strategy
         (map live_of live.now) queue.now draw.old.drawn) result }
@@ -365,7 +365,7 @@ fn choose_of_all(
     ensures nothing { result ≡ Ok Choice.Nothing → draw.new ≡ draw.old }
     ensures failed { OnErr result (draw.new ≡ draw.old) }
     ensures noted { WhereWhole heeds.new.whole (map live_of live.now) heeds.new.roll
-        heeds.new.changed.items }
+        heeds.new.changed }
     ensures sets { blocks.new.sets ≡ blocks.old.sets }
     ensures settled { AreSettled (plain_ground ground.now) budget (map live_of live.now) blocks.new }
 {
@@ -392,7 +392,7 @@ pub(crate) fn choose(
     requires words { draw.old.drawn + 1 < 2 ^ 64 }
     requires settled { AreSettled (plain_ground ground.now) budget (map live_of live.now) blocks.old }
     requires noted { WhereWhole heeds.old.whole (map live_of live.now) heeds.old.roll
-        heeds.old.changed.items }
+        heeds.old.changed }
     requires tallied { Tallied (plain_ground ground.now) budget (sets_in blocks.old.sets)
         (map live_of live.now) (plain_tally tally.old) }
     ensures chosen { AnswersAs (chosen_of queue.now draw.new.drawn)
@@ -404,7 +404,7 @@ pub(crate) fn choose(
     ensures nothing { result ≡ Ok Choice.Nothing → draw.new ≡ draw.old }
     ensures failed { OnErr result (draw.new ≡ draw.old) }
     ensures noted { WhereWhole heeds.new.whole (map live_of live.now) heeds.new.roll
-        heeds.new.changed.items }
+        heeds.new.changed }
     ensures sets { blocks.new.sets ≡ blocks.old.sets }
     ensures settled { AreSettled (plain_ground ground.now) budget (map live_of live.now) blocks.new }
     ensures tallied { Tallied (plain_ground ground.now) budget (sets_in blocks.old.sets)

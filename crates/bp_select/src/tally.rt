@@ -30,13 +30,13 @@ use crate::heeds::{Heeds, blocking_at, numbers_of, places_of};
 use crate::placing::{is_at, place_of};
 use crate::{Choice, Draw};
 use bp_log::{Memory, Strategy};
-use bp_roll::Roll;
+use bp_roll::{Changes, Roll};
 use js_data::Event;
 use js_frames::Ground;
 use std::alloc::Global;
 
 /// After this many questions, one after another, in which no block set changed, counting begins.
-const CALM: u32 = 8;
+const CALM: u32 = 2;
 
 /// Counts that answered this many questions were worth it.
 const WORTH: u32 = 64;
@@ -47,7 +47,7 @@ pub(crate) struct Tally {
     /// By number, and 0 where nobody is.
     pub counts: Counts,
     /// The numbers whose b-threads may have changed since they were counted.
-    pub changed: Vec<u32>,
+    pub changed: Changes,
     /// Whether all others are counted.
     pub whole: bool,
     /// How many questions there were since counting began, or since a block set changed. Only when
@@ -471,7 +471,7 @@ impl Tally {
     {
         Tally {
             counts: Counts::new(alloc),
-            changed: Vec::new(alloc),
+            changed: Changes::new(alloc),
             whole: false,
             calm: 0,
             wait: CALM,
@@ -482,13 +482,13 @@ impl Tally {
     /// The statement of the b-thread of this number may change.
     pub fn mark(&mut self, number: u32) -> Result<(), Memory>
         ensures noted { OnOk result
-            (self.new.whole ≡ true → is_in number self.new.changed.items ≡ true) }
+            (self.new.whole ≡ true → is_in number self.new.changed ≡ true) }
         ensures others { (base : Base) (budget : ℕ) (sets : Sets) (ts : List (Live PlainSet)) →
             Tallied base budget sets ts (plain_tally self.old) →
             Tallied base budget sets ts (plain_tally self.new) }
     {
         if self.whole {
-            self.changed.push(number)?;
+            self.changed.note(number)?;
         }
         Ok(())
     }
@@ -523,7 +523,7 @@ impl Tally {
         }
         let numbers = numbers_of(alloc, live)?;
         self.counts = Counts::new(alloc);
-        self.changed = numbers;
+        self.changed = Changes::noting(numbers);
         self.events = requests_of(live);
         self.whole = true;
         self.calm = 0;
@@ -596,11 +596,11 @@ pub(crate) fn quick(
 ) -> Result<Option<Picked>, Memory>
     requires settled { AreSettled (plain_ground ground.now) budget (map live_of live.now) blocks.old }
     requires noted { WhereWhole heeds.old.whole (map live_of live.now) heeds.old.roll
-        heeds.old.changed.items }
+        heeds.old.changed }
     requires tallied { Tallied (plain_ground ground.now) budget (sets_in blocks.old.sets)
         (map live_of live.now) (plain_tally tally.old) }
     ensures noted { WhereWhole heeds.new.whole (map live_of live.now) heeds.new.roll
-        heeds.new.changed.items }
+        heeds.new.changed }
     ensures sets { blocks.new.sets ≡ blocks.old.sets }
     ensures settled { AreSettled (plain_ground ground.now) budget (map live_of live.now) blocks.new }
     ensures tallied { Tallied (plain_ground ground.now) budget (sets_in blocks.old.sets)

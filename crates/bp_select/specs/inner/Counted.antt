@@ -10,7 +10,7 @@ use Rattle.bp_select.specs.Tallies.{AreApart, Each, HasFree, PlainTally, is_ther
 use Rattle.bp_select.specs.declared.tally.Tally as tally
 
 abbrev pub plain_tally : tally.Tally → PlainTally
-plain_tally y = record { counts = y.counts; changed = y.changed.items; whole = y.whole }
+plain_tally y = record { counts = y.counts; changed = y.changed; whole = y.whole }
 
 -- nobody else requests an event that the b-thread requests, free or blocked
 abbrev pub IsAlone : List (Live PlainSet) → Live PlainSet → Type 0

@@ -64,4 +64,4 @@ WhereWhole whole ts r changed = whole ≡ true → AreNoted ts r changed
 pub record AreKept (ts : List (Live PlainSet)) (sets : Sets) (changed : List ℕ) (h : heeds.Heeds)
     : Type 0 where
   pub blocking : AreOfUnchanged ts sets changed
-  pub heeding : WhereWhole h.whole ts h.roll h.changed.items
+  pub heeding : WhereWhole h.whole ts h.roll h.changed

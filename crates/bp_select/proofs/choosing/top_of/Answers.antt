@@ -1,4 +1,4 @@
-use Rattle.std.proofs.Common.{◌≡◌, ◌∙◌, ℤ, Option, ap, w64, SFits, to_z-of_z, rules}
+use Rattle.std.proofs.Common.{◌∙◌, ℤ, ap, w64, SFits, to_z-of_z, rules}
 use Rattle.std.specs.List.{list_all}
 use Rattle.bp_run.specs.Choosing.{at_most, greater, priority_of}
 use Rattle.bp_select.specs.inner.Candidates.{event_of, events_in}

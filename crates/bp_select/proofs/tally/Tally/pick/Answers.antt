@@ -26,7 +26,7 @@ settle_all-requires-clause-tallied c =
     let base = plain_ground c.args.ground.now in
     let ts = map live_of c.args.live.now in
     subst (λ (es : List (ℕ × PlainSet)). AreTallied base c.args.budget (sets_in es) ts c.as_slice-changed.result.now c.begin.new.self.counts) (sym c.begin_question.ensures.sets)
-    (subst (λ (xs : List ℕ). AreTallied base c.args.budget (sets_in c.args.blocks.now.sets) ts xs c.begin.new.self.counts) (sym c.as_slice-changed.ensures.value)
+    (subst (λ (xs : List ℕ). AreTallied base c.args.budget (sets_in c.args.blocks.now.sets) ts xs c.begin.new.self.counts) (sym c.as_slice-changed.ensures)
     (c.begin.ensures.tallied base c.args.budget (sets_in c.args.blocks.now.sets) c.requires.tallied (c.in_ok-begun.ensures.whole c.if-not-begun.false)))
 
 pub returns-in_err-all-clause-sets : goal.returns-in_err-all-clause-sets
@@ -36,8 +36,8 @@ pub returns-in_err-all-clause-tallied : goal.returns-in_err-all-clause-tallied
 returns-in_err-all-clause-tallied c = λ w.
     let base = plain_ground c.args.ground.now in
     let ts = map live_of c.args.live.now in
-    subst (λ (es : List (ℕ × PlainSet)). AreTallied base c.args.budget (sets_in es) ts c.begin.new.self.changed.items c.settle_all.new.counts) c.begin_question.ensures.sets
-    (subst (λ (xs : List ℕ). AreTallied base c.args.budget (sets_in c.begin_question.new.self.sets) ts xs c.settle_all.new.counts) c.as_slice-changed.ensures.value c.settle_all.ensures.tallied)
+    subst (λ (es : List (ℕ × PlainSet)). AreTallied base c.args.budget (sets_in es) ts c.begin.new.self.changed c.settle_all.new.counts) c.begin_question.ensures.sets
+    (subst (λ (xs : List ℕ). AreTallied base c.args.budget (sets_in c.begin_question.new.self.sets) ts xs c.settle_all.new.counts) c.as_slice-changed.ensures c.settle_all.ensures.tallied)
 
 pub returns-then-not-all-clause-sets : goal.returns-then-not-all-clause-sets
 returns-then-not-all-clause-sets c = c.settle_all.ensures.sets ∙ c.begin_question.ensures.sets
@@ -57,5 +57,5 @@ pub returns-clause-tallied : goal.returns-clause-tallied
 returns-clause-tallied c = λ w.
     let base = plain_ground c.args.ground.now in
     let ts = map live_of c.args.live.now in
-    subst (λ (xs : List ℕ). AreTallied base c.args.budget (sets_in c.args.blocks.now.sets) ts xs c.settle_all.new.counts) (sym c.clear.ensures.items)
+    subst (λ (xs : List ℕ). AreTallied base c.args.budget (sets_in c.args.blocks.now.sets) ts xs c.settle_all.new.counts) (sym c.clear.ensures)
     (subst (λ (es : List (ℕ × PlainSet)). AreTallied base c.args.budget (sets_in es) ts [] c.settle_all.new.counts) c.begin_question.ensures.sets (c.in_ok-all.ensures.settled c.if-not-all.false))
