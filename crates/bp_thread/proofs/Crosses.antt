@@ -47,4 +47,4 @@ origin_send = variants_send Origin.enum (tt, ((search (sendable, mode.the_send),
 
 pub job_send : IsSend Job.the_row
 job_send = declared_send Job.the_type
-    (search (sendable, heap_send), (search sendable, (text_send, (origin_send, (events_send, (search (sendable, machine_send) depth 18, (effects_send, (search (sendable, value_send) depth 18, (search (sendable, outcome_send) depth 18, tt)))))))))
+    (search (sendable, heap_send), (search sendable, (text_send, (origin_send, (events_send, (search (sendable, crosses, machine_send) depth 18, (effects_send, (search (sendable, value_send) depth 18, (search (sendable, outcome_send) depth 18, tt)))))))))

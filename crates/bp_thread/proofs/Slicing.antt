@@ -18,7 +18,7 @@ use Rattle.bp_thread.specs.declared.job.Job.{Job}
 use Rattle.bp_thread.specs.declared.outcome.Outcome.{Outcome}
 use Rattle.bp_thread.specs.Views.{plain_origin, plain_outcome}
 use Rattle.bp_thread.specs.Pauses.{outcome_of_pause}
-use Rattle.bp_thread.specs.Jobs.{plain_job, is_stopped, is_ended, stop_line, IsOf, IsOutcome, StandsAt, IsWhole, IsSame, Sliced}
+use Rattle.bp_thread.specs.Jobs.{plain_job, machine_of, is_stopped, is_ended, stop_line, IsOf, IsOutcome, StandsAt, IsWhole, IsSame, Sliced}
 use Rattle.bp_thread.specs.Carried.{Carries}
 use Rattle.bp_thread.proofs.Standing.{false_true}
 
@@ -94,7 +94,7 @@ pub record Taken (m n : Machine) (fresh : List Effect) : Type 0 where
 
 -- the second job is the first one after a pause of its machine, with the effects since then
 pub record Paused (old new : Job) (p : Pause) (m n : Machine) (fresh : List Effect) : Type 0 where
-  pub there : new.machine ≡ Some n
+  pub there : machine_of new ≡ Some n
   pub origin : new.origin ≡ old.origin
   pub replies : new.replies ≡ old.replies
   pub taken : Taken m n fresh

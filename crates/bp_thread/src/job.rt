@@ -8,7 +8,7 @@ ghost use Rattle.js_frames.specs.Places.{plain_ground, plain_effects};
 ghost use Rattle.js_frames.specs.Runs.{Stands, untaken};
 ghost use Rattle.js_meaning.specs.State.{effects_since};
 ghost use Rattle.bp_meaning.specs.After.{after, handler as handler_set};
-ghost use Rattle.bp_thread.specs.Kept.{fits_outcome};
+ghost use Rattle.bp_thread.specs.Kept.{boxed, fits_outcome};
 ghost use Rattle.bp_thread.specs.Views.{plain_outcome, plain_origin};
 
 use crate::events::Events;
@@ -32,13 +32,13 @@ pub struct Job {
     name: Text,
     origin: Origin,
     replies: Events,
-    /// Nothing after memory ran out.
-    machine: Option<Machine>,
+    /// Nothing after memory ran out. On the heap, so that a job that moves is small.
+    machine: Option<Box<Machine>>,
     effects: Effects,
     handler: Option<Value>,
     outcome: Option<Outcome>,
     /// Where the outcome is there, so is the machine; and where it is a stop, the machine asks.
-    ghost kept: { fits_outcome machine outcome ≡ true },
+    ghost kept: { fits_outcome (boxed machine) outcome ≡ true },
 }
 
 impl Drop for Job {
@@ -58,11 +58,11 @@ impl Drop for Job {
 }
 
 impl Job {
-    ghost use Rattle.bp_thread.specs.Jobs.{plain_job, IsOf, IsLost, is_stopped, is_ended, stop_line, StandsAt, StandsFor, IsWhole, IsFresh, IsSame, Sliced};
+    ghost use Rattle.bp_thread.specs.Jobs.{plain_job, machine_of, IsOf, IsLost, is_stopped, is_ended, stop_line, StandsAt, StandsFor, IsWhole, IsFresh, IsSame, Sliced};
     ghost use Rattle.bp_thread.specs.Carried.{carried, Carries};
 
     /// A job that has this machine, which has not begun.
-    fn on(alloc: Global, number: u32, name: Text, origin: Origin, machine: Machine) -> Job
+    fn on(alloc: Global, number: u32, name: Text, origin: Origin, machine: Box<Machine>) -> Job
         ensures made { plain_job result ≡ record {
           number = number;
           name = name;
@@ -72,10 +72,10 @@ impl Job {
           handler = None;
           outcome = None;
         } }
-        ensures machine { result.machine ≡ Some machine }
+        ensures machine { machine_of result ≡ Some machine.value }
         ensures fresh { (base : js.Ground) → (budget : ℕ) →
-            Stands base budget (plain_origin origin) [] 0 [] machine →
-            untaken machine ≡ [] → IsFresh base budget result }
+            Stands base budget (plain_origin origin) [] 0 [] machine.value →
+            untaken machine.value ≡ [] → IsFresh base budget result }
     {
         Job {
             alloc,
@@ -118,6 +118,7 @@ impl Job {
     {
         let args = Items::new(alloc, args)?;
         let machine = Machine::start(alloc, ground, &callee, args.as_slice(), kind, budget)?;
+        let machine = Box::new(alloc, machine)?;
         let origin = Origin::Call(kind, callee, args);
         Ok(Job::on(alloc, number, name, origin, machine))
     }
@@ -137,6 +138,7 @@ impl Job {
         ensures fresh { IfOk result (λ j. IsFresh (plain_ground ground.now) budget j) }
     {
         let machine = Machine::top(alloc, ground, budget)?;
+        let machine = Box::new(alloc, machine)?;
         let name = Text::new(String::new(alloc));
         Ok(Job::on(alloc, 0, name, Origin::Top, machine))
     }
@@ -229,7 +231,7 @@ impl Job {
             outcome: _,
         } = self;
         match machine {
-            Some(machine) => machine.constants(),
+            Some(machine) => Box::into_inner(machine).constants(),
             None => unreachable!(),
         }
     }
@@ -273,9 +275,10 @@ impl Job {
         ensures open { OnErr result ((plain_job self.new).outcome ≡ None) }
         ensures stays_lost { IsLost self.old → IsErr result }
     {
-        let Some(machine) = &mut self.machine else {
+        let Some(boxed) = &mut self.machine else {
             return Err(AllocError);
         };
+        let machine = &mut **boxed;
         let pause = machine.run(ground, nodes)?;
         let fresh = machine.take_effects();
         set_handler(&mut self.handler, fresh.items.as_slice())?;

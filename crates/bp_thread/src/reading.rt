@@ -2,6 +2,7 @@
 ghost use Rattle.std.specs.Prelude.{◌≡◌, unwrap_or, option_map};
 ghost use Rattle.std.specs.List.{list_all};
 ghost use Rattle.js_value.specs.Lists.{fields_in};
+ghost use Rattle.js_value.specs.Parts.{field_at};
 ghost use Rattle.js_value.specs.Value.{undefined};
 ghost use Rattle.js_value.specs.Views.{plain_value};
 ghost use Rattle.bp_meaning.specs.Statements.{statement_of as statement_that_is, statement_in as statement_in_fields, requested as requested_by, set_stated as set_that_is, priority_stated as priority_that_is, events_in, is_key as is_stated_key};
@@ -111,6 +112,19 @@ fn priority_stated(value: &Value) -> Result<Whole, StatementFault>
     }
 }
 
+/// The value under the key, if there is one. A statement has four keys at most, so a look at each
+/// costs less than a search by halves.
+fn value_at<'a>(fields: &'a Pairs, key: &str) -> Option<&'a Value>
+    ensures { option_map (λ v. plain_value v.now) result ≡ field_at fields.now key.now }
+{
+    for field in fields.as_slice() {
+        if field.0.as_str() == key {
+            return Some(&field.1);
+        }
+    }
+    None
+}
+
 fn statement_in(
     alloc: Global,
     fields: &Pairs,
@@ -120,10 +134,10 @@ fn statement_in(
         (statement_in_fields fields.now (plain_value priority.now)) result }
 {
     Ok(Statement {
-        request: requested(alloc, fields.get("request"))?,
-        wait_for: set_stated(alloc, fields.get("waitFor"))?,
-        block: set_stated(alloc, fields.get("block"))?,
-        interrupt: set_stated(alloc, fields.get("interrupt"))?,
+        request: requested(alloc, value_at(fields, "request"))?,
+        wait_for: set_stated(alloc, value_at(fields, "waitFor"))?,
+        block: set_stated(alloc, value_at(fields, "block"))?,
+        interrupt: set_stated(alloc, value_at(fields, "interrupt"))?,
         priority: priority_stated(priority)?,
     })
 }

@@ -1,9 +1,9 @@
-use Rattle.std.proofs.Common.{[], None, ap, subst, ◌∙◌}
+use Rattle.std.proofs.Common.{[], None, ap, subst, sym, ◌∙◌}
 use Rattle.js_value.specs.Lists.{values_in, values_in-of}
 use Rattle.js_value.specs.Views.{plain_value}
 use Rattle.js_meaning.specs.Bodies.{Origin, function}
 use Rattle.js_frames.specs.Places.{plain_ground}
-use Rattle.js_frames.specs.Runs.{Stands}
+use Rattle.js_frames.specs.Runs.{Stands, untaken}
 use Rattle.bp_thread.specs.Jobs.{PlainJob}
 use Rattle.bp_thread.proofs.job.Job.start.Goals as goal
 
@@ -14,6 +14,9 @@ returns-clause-made c =
 
 pub returns-clause-fresh : goal.returns-clause-fresh
 returns-clause-fresh c =
+    let held = c.in_ok-machine-2.ensures.ok in
+    let origin = function c.args.kind (plain_value c.args.callee) in
     c.on.ensures.fresh _ _
-    (subst (λ xs. Stands (plain_ground c.args.ground.now) c.args.budget (function c.args.kind (plain_value c.args.callee) xs) [] 0 [] c.in_ok-machine.machine) c.as_slice.ensures.values c.in_ok-machine.ensures.stands)
-    c.in_ok-machine.ensures.effects
+    (subst (λ m. Stands (plain_ground c.args.ground.now) c.args.budget (origin (values_in c.in_ok-args.args)) [] 0 [] m) (sym held)
+    (subst (λ xs. Stands (plain_ground c.args.ground.now) c.args.budget (origin xs) [] 0 [] c.in_ok-machine.machine) c.as_slice.ensures.values c.in_ok-machine.ensures.stands))
+    (ap untaken held ∙ c.in_ok-machine.ensures.effects)

@@ -5,6 +5,7 @@ use Rattle.js_frames.specs.Runs.{Stands}
 use Rattle.bp_meaning.specs.After.{handler_after}
 use Rattle.bp_thread.specs.Views.{plain_origin}
 use Rattle.bp_thread.specs.Jobs.{plain_job}
+use Rattle.bp_thread.specs.Kept.{boxed}
 use Rattle.bp_thread.proofs.Slicing.{Paused, some_outcome, done_is_outcome, sliced}
 use Rattle.bp_thread.proofs.job.Job.step.Goals as goal
 
@@ -31,4 +32,4 @@ returns-clause-stands c = λ budget begun made at.
     } in
     sliced (plain_ground c.args.ground.now) budget c.args.nodes _ _ _ _ _ _ paused begun made _ (c.is_some-done.ensures ∙ sym (some_outcome c.in_ok-outcome.outcome)) at
     (c.in_ok-pause.ensures.stands budget (plain_origin c.args.self.now.origin) c.args.self.now.replies begun made
-    (subst (λ m. Stands (plain_ground c.args.ground.now) budget (plain_origin c.args.self.now.origin) c.args.self.now.replies begun made m) (one_answer _ _ _ at.there c.in-Some.is) at.stands))
+    (subst (λ m. Stands (plain_ground c.args.ground.now) budget (plain_origin c.args.self.now.origin) c.args.self.now.replies begun made m) (one_answer _ _ _ at.there (ap boxed c.in-Some.is) ∙ sym c.deref_mut-machine.ensures.value) at.stands))
