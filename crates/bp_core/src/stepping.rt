@@ -1,5 +1,5 @@
 //! A core: an arbiter together with its lent jobs.
-ghost use Rattle.std.specs.Prelude.{◌≡◌, ◌++◌, [], IfOk, IfErr, OnOk, OnErr, IsErrAnd, List, length, nat_eq, slice_get, ◌<◌, ◌^◌, Some, None, true, false};
+ghost use Rattle.std.specs.Prelude.{◌≡◌, ◌++◌, [], IfOk, IfErr, OnOk, OnErr, IsErr, IsErrAnd, Err, List, length, nat_eq, slice_get, ◌<◌, ◌^◌, Some, None, true, false};
 ghost use Rattle.std.specs.List.{list_any, list_all};
 ghost use Rattle.js_meaning.specs.Bodies.{Origin};
 ghost use Rattle.bp_log.specs.declared.trace.Line.{Line};
@@ -9,6 +9,7 @@ ghost use Rattle.bp_thread.specs.Jobs.{plain_job};
 ghost use Rattle.bp_steps.specs.declared.step.CoreStep.TheVariants as step;
 ghost use Rattle.bp_steps.specs.Steps.{Moment};
 ghost use Rattle.bp_steps.specs.Steps as steps;
+ghost use Rattle.bp_floor.specs.declared.absorb.Absorb.TheVariants as absorb;
 ghost use Rattle.bp_floor.specs.declared.phase.Phase.TheVariants as phase;
 ghost use Rattle.bp_arbiter.specs.Arbiters.{opened, is_lent, coming, stand_in, Tells};
 ghost use Rattle.bp_arbiter.specs.Pick.{picked_of};
@@ -146,6 +147,7 @@ impl Core {
             IsCoreAt self.old self.old.jobs.items taken m →
             k ≡ picked_of (coming self.old.arbiter m.told)) }
         ensures broken { OnErr result (self.new.broken ≡ true) }
+        ensures stays { self.old.broken ≡ true → IsErr result }
         ensures cut { OnErr result (Cuts self.old self.new step.Pick) }
         ensures kept { KeepsProgram self.old.arbiter self.new.arbiter }
         ensures inside { self.new.out ≡ self.old.out }
@@ -179,6 +181,7 @@ impl Core {
         ensures kept { KeepsProgram self.old.arbiter self.new.arbiter }
         ensures refused { IfErr result (λ e. self.old.broken ≡ false →
             ComesBack (stand_in self.old.arbiter) item e) }
+        ensures stays { self.old.broken ≡ true → result ≡ Err (absorb.Memory item) }
         ensures same { OnErr result (self.new ≡ self.old) }
         ensures inside { self.new.out ≡ self.old.out }
     {
@@ -202,6 +205,7 @@ impl Core {
             length (stand_in self.old.arbiter).threads
             < length (stand_in self.new.arbiter).threads) }
         ensures broken { OnErr result (self.new.broken ≡ true) }
+        ensures stays { self.old.broken ≡ true → IsErr result }
         ensures cut { OnErr result (Cuts self.old self.new step.Seal) }
         ensures kept { KeepsProgram self.old.arbiter self.new.arbiter }
         ensures inside { self.new.out ≡ self.old.out }
@@ -286,11 +290,13 @@ impl Core {
     /// The lines since the last taking.
     pub fn take_lines(&mut self) -> Lines
         ensures taken { (stand_in self.old.arbiter).lines ≡ result }
+        ensures none { (stand_in self.new.arbiter).lines ≡ [] }
         ensures records { self.new.arbiter.records ≡ self.old.arbiter.records }
         ensures phase { self.new.arbiter.phase ≡ self.old.arbiter.phase }
         ensures kept { KeepsProgram self.old.arbiter self.new.arbiter }
         ensures jobs { self.new.jobs ≡ self.old.jobs }
         ensures inside { self.new.out ≡ self.old.out }
+        ensures broken { self.new.broken ≡ self.old.broken }
         ensures at { (lent : List Lent) (taken : List Line) (m : Moment Origin) →
             IsCoreAt self.old lent taken m → IsCoreAt self.new lent (taken ++ result) m }
         ensures tells { (taken : List Line) → Tells self.old.arbiter taken →
