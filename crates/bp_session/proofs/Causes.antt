@@ -1,56 +1,107 @@
--- What a fault came of, over several steps.
-use Rattle.std.proofs.Common.{◌≡◌, ◌≤◌, ℕ, List, Option, Some, None, refl, sym, subst}
-use Rattle.std.specs.Prelude.{Result, Ok, Err, IfErr, IsErrOf}
+-- What the outlets are after several steps, and what a fault came of.
+use Rattle.std.proofs.Common.{◌≡◌, ◌∙◌, arith, refl, sym, subst, List, Option, Some, None}
+use Rattle.std.specs.Prelude.{Result, Ok, Err, IfSome, IsErrOf, IsErrAnd}
 use Rattle.bp_base.specs.Counts.{Rose}
-use Rattle.bp_feeds.proofs.Going.{rose_from}
+use Rattle.bp_base.specs.declared.outside.Sink.{Ghosts}
+use Rattle.bp_feeds.proofs.Going.{rose_from, rose_on}
 use Rattle.bp_told.specs.Logging.{LogFails, LogStays}
 use Rattle.bp_told.specs.declared.fault.RunFault.{RunFault}
 use Rattle.bp_told.specs.declared.fault.RunFault.TheVariants.{Write, LogWrite, Memory}
+use Rattle.bp_told.proofs.Logging.{log_same, stays_on}
 use Rattle.bp_scope.specs.declared.reading.Reading.{Reading}
 use Rattle.bp_session.specs.inner.Hearing.{StopsHearing}
-use Rattle.bp_session.specs.inner.Serving.{IsCaused, StopIsCaused}
+use Rattle.bp_session.specs.inner.Outlets.{told_fault, stop_fault, served_fault, ended_fault, IsCaused, WritesTo}
+use Rattle.bp_session.specs.inner.Serving.{ending_of}
+use Rattle.bp_session.specs.declared.outlets.Outlets.{Outlets}
+use Rattle.bp_session.specs.declared.report.Ending.{Ending}
 use Rattle.bp_session.specs.declared.stop.Stop.{Stop}
 use Rattle.bp_session.specs.declared.stop.Stop.TheVariants as stop
 
-module _ {K L : Type 0} (faults : K → ℕ) (log_faults : L → ℕ) where
-  -- what telling answers of its faults
-  pub caused_by : {T : Type 0} (r : Result T RunFault) (x y : K) (a b : Option L) → (IsErrOf r Write → Rose (faults x) (faults y)) → (IsErrOf r LogWrite → LogFails log_faults a b) → IfErr r (IsCaused faults log_faults x y a b)
-  caused_by (Ok t) x y a b f g = tt
-  caused_by (Err Write) x y a b f g = f refl
-  caused_by (Err LogWrite) x y a b f g = g refl
-  caused_by (Err Memory) x y a b f g = tt
+module _ {L : Type 0} (l : Ghosts L) where
+  -- a log that failed later has failed
+  fails_from : (a b c : Option L) → LogStays l.made_as l.faults a b → LogFails l.faults b c → LogFails l.faults a c
+  fails_from None None c s f = absurd f
+  fails_from None (Some m) c s f = absurd s
+  fails_from (Some x) None c s f = absurd s
+  fails_from (Some x) (Some m) None s f = absurd f
+  fails_from (Some x) (Some m) (Some n) s f = rose_from (l.faults x) (l.faults m) (l.faults n) f s.1
 
-  -- of the fault that it answered
-  pub caused_at : {T : Type 0} (r : Result T RunFault) (f : RunFault) (x y : K) (a b : Option L) → r ≡ Err f → (IsErrOf r Write → Rose (faults x) (faults y)) → (IsErrOf r LogWrite → LogFails log_faults a b) → IsCaused faults log_faults x y a b f
-  caused_at r Write x y a b e g h = g e
-  caused_at r LogWrite x y a b e g h = h e
-  caused_at r Memory x y a b e g h = tt
+  -- and one that failed has failed still
+  fails_still : (a b c : Option L) → LogStays l.made_as l.faults a b → LogStays l.made_as l.faults b c → LogFails l.faults a b → LogFails l.faults a c
+  fails_still None b c s t f = absurd f
+  fails_still (Some x) None c s t f = absurd f
+  fails_still (Some x) (Some m) None s t f = absurd t
+  fails_still (Some x) (Some m) (Some n) s t f = rose_on (l.faults x) (l.faults m) (l.faults n) f s.1 t.1
+
+-- what telling answers of its faults
+pub caused_by : {K L T : Type 0} (k : Ghosts K) (l : Ghosts L) (r : Result T RunFault) (x y : K) (a b : Option L) → (IsErrOf r Write → Rose (k.faults x) (k.faults y)) → (IsErrOf r LogWrite → LogFails l.faults a b) → IfSome (told_fault r) (IsCaused k l x y a b)
+caused_by k l (Ok t) x y a b f g = tt
+caused_by k l (Err Write) x y a b f g = f refl
+caused_by k l (Err LogWrite) x y a b f g = g refl
+caused_by k l (Err Memory) x y a b f g = tt
+
+module _ {K L : Type 0} {k : Ghosts K} {l : Ghosts L} where
+  -- nothing was written
+  pub writes_none : (a : Outlets K L) → WritesTo k l a a None
+  writes_none a = record { out_same = refl; log_same = refl; writes = record { counts = omega arith; stays = log_same l.made_as l.faults a.log.now; cause = tt } }
 
   -- lack of memory needs no cause
-  pub memory_caused : (s : Stop) (x y : K) (a b : Option L) → s ≡ stop.Broken Memory → StopIsCaused faults log_faults x y a b s
-  memory_caused s x y a b e = subst (λ (t : Stop). StopIsCaused faults log_faults x y a b t) (sym e) tt
+  pub writes_lack : {a b : Outlets K L} → WritesTo k l a b None → WritesTo k l a b (Some Memory)
+  writes_lack w = record { out_same = w.out_same; log_same = w.log_same; writes = record { counts = w.writes.counts; stays = w.writes.stays; cause = tt } }
+
+  cause_from : (a b c : Outlets K L) {f : Option RunFault} (e : Option RunFault) → WritesTo k l a b f → IfSome e (IsCaused k l b.out.now c.out.now b.log.now c.log.now) → IfSome e (IsCaused k l a.out.now c.out.now a.log.now c.log.now)
+  cause_from a b c None w h = tt
+  cause_from a b c (Some Write) w h = rose_from (k.faults a.out.now) (k.faults b.out.now) (k.faults c.out.now) h w.writes.counts
+  cause_from a b c (Some LogWrite) w h = fails_from l a.log.now b.log.now c.log.now w.writes.stays h
+  cause_from a b c (Some Memory) w h = tt
+
+  cause_still : (a b c : Outlets K L) {f : Option RunFault} (e : Option RunFault) → WritesTo k l a b e → WritesTo k l b c f → IfSome e (IsCaused k l a.out.now c.out.now a.log.now c.log.now)
+  cause_still a b c None w v = tt
+  cause_still a b c (Some Write) w v = rose_on (k.faults a.out.now) (k.faults b.out.now) (k.faults c.out.now) w.writes.cause w.writes.counts v.writes.counts
+  cause_still a b c (Some LogWrite) w v = fails_still l a.log.now b.log.now c.log.now w.writes.stays v.writes.stays w.writes.cause
+  cause_still a b c (Some Memory) w v = tt
+
+  both_write : (a b c : Outlets K L) {f g : Option RunFault} (e : Option RunFault) → WritesTo k l a b f → WritesTo k l b c g → IfSome e (IsCaused k l a.out.now c.out.now a.log.now c.log.now) → WritesTo k l a c e
+  both_write a b c e w v h =
+      record {
+        out_same = v.out_same ∙ w.out_same;
+        log_same = v.log_same ∙ w.log_same;
+        writes = record {
+          counts = let m = w.writes.counts in let n = v.writes.counts in omega (arith, m, n);
+          stays = stays_on l.made_as l.faults a.log.now b.log.now c.log.now w.writes.stays v.writes.stays;
+          cause = h;
+        };
+      }
+
+  -- a fault of the later part is one of the whole
+  pub writes_on : {a b c : Outlets K L} {f e : Option RunFault} → WritesTo k l a b f → WritesTo k l b c e → WritesTo k l a c e
+  writes_on {a} {b} {c} {f} {e} w v = both_write a b c e w v (cause_from a b c e w v.writes.cause)
+
+  -- a fault of the earlier part is one of the whole
+  pub writes_still : {a b c : Outlets K L} {f e : Option RunFault} → WritesTo k l a b e → WritesTo k l b c f → WritesTo k l a c e
+  writes_still {a} {b} {c} {f} {e} w v = both_write a b c e w v (cause_still a b c e w v)
 
   -- hearing writes nothing
-  pub hearing_caused : {S : Type 0} (readings : List (Reading S)) (s : Stop) (x y : K) (a b : Option L) → StopsHearing readings s → StopIsCaused faults log_faults x y a b s
-  hearing_caused readings (stop.Read j) x y a b h = tt
-  hearing_caused readings (stop.Broken f) x y a b h = subst (λ (e : RunFault). IsCaused faults log_faults x y a b e) (sym h) tt
-  hearing_caused readings (stop.Unwritten f) x y a b h = absurd h
+  pub hearing_writes : {S : Type 0} (readings : List (Reading S)) (s : Stop) (a : Outlets K L) → StopsHearing readings s → WritesTo k l a a (stop_fault s)
+  hearing_writes readings (stop.Read j) a h = writes_none a
+  hearing_writes readings (stop.Broken f) a h = subst (λ (e : RunFault). WritesTo k l a a (Some e)) (sym h) (writes_lack (writes_none a))
+  hearing_writes readings (stop.Unwritten f) a h = absurd h
 
-  module _ (made : L → Option (List ℕ)) (x y z : K) (a b c : Option L) (counts : faults x ≤ faults y) (stays : LogStays made log_faults a b) where
-    fails_on : (a b c : Option L) → LogStays made log_faults a b → LogFails log_faults b c → LogFails log_faults a c
-    fails_on None None c s f = absurd f
-    fails_on None (Some m) c s f = absurd s
-    fails_on (Some l) None c s f = absurd s
-    fails_on (Some l) (Some m) None s f = absurd f
-    fails_on (Some l) (Some m) (Some n) s f = rose_from (log_faults l) (log_faults m) (log_faults n) f s.1
+  pub memory_writes : (s : Stop) (a : Outlets K L) → s ≡ stop.Broken Memory → WritesTo k l a a (stop_fault s)
+  memory_writes s a e = subst (λ (t : Stop). WritesTo k l a a (stop_fault t)) (sym e) (writes_lack (writes_none a))
 
-    pub caused_on : (f : RunFault) → IsCaused faults log_faults y z b c f → IsCaused faults log_faults x z a c f
-    caused_on Write h = rose_from (faults x) (faults y) (faults z) h counts
-    caused_on LogWrite h = fails_on a b c stays h
-    caused_on Memory h = tt
+  -- ---- what a `?` hands on
 
-    -- what a later step came of, all came of
-    pub stop_caused_on : (s : Stop) → StopIsCaused faults log_faults y z b c s → StopIsCaused faults log_faults x z a c s
-    stop_caused_on (stop.Read j) h = tt
-    stop_caused_on (stop.Broken f) h = caused_on f h
-    stop_caused_on (stop.Unwritten f) h = caused_on f h
+  pub stops_at : {T : Type 0} {a b : Outlets K L} (r : Result T Stop) (s : Stop) → IsErrAnd r (λ e. e ≡ s) → WritesTo k l a b (stop_fault s) → WritesTo k l a b (served_fault r)
+  stops_at (Ok x) s h w = absurd h
+  stops_at {a = a} {b = b} (Err e) s h w = subst (λ (t : Stop). WritesTo k l a b (stop_fault t)) (sym h) w
+
+  pub breaks_at : {T : Type 0} {a b : Outlets K L} (r : Result T RunFault) (f : RunFault) → IsErrAnd r (λ e. e ≡ f) → WritesTo k l a b (Some f) → WritesTo k l a b (told_fault r)
+  breaks_at (Ok x) f h w = absurd h
+  breaks_at {a = a} {b = b} (Err e) f h w = subst (λ (t : RunFault). WritesTo k l a b (Some t)) (sym h) w
+
+  -- the ending of a fault has its cause
+  pub ends_at : {a b : Outlets K L} (e : Ending) (f : RunFault) → e ≡ ending_of f → WritesTo k l a b (Some f) → WritesTo k l a b (ended_fault e)
+  ends_at {a} {b} e Write h w = subst (λ (d : Ending). WritesTo k l a b (ended_fault d)) (sym h) w
+  ends_at {a} {b} e LogWrite h w = subst (λ (d : Ending). WritesTo k l a b (ended_fault d)) (sym h) w
+  ends_at {a} {b} e Memory h w = subst (λ (d : Ending). WritesTo k l a b (ended_fault d)) (sym h) w

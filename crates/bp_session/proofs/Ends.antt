@@ -1,5 +1,5 @@
 -- How serving ends.
-use Rattle.std.proofs.Common.{◌≡◌, ◌≤◌, ◌⊎◌, inl, inr, ℕ, List, [], refl, append-nil, Option, Some, None, IsSome, Ok, Err, subst, sym}
+use Rattle.std.proofs.Common.{◌≡◌, ℕ, List, [], refl, append-nil, Option, Some, None, IsSome, Ok, Err, subst, sym}
 use Rattle.std.specs.Prelude.{Result, IfOk, OnOk, IfErr, IfSome}
 use Rattle.js_value.specs.Value.{PlainSet}
 use Rattle.js_meaning.specs.Bodies.{Origin}
@@ -8,61 +8,23 @@ use Rattle.bp_log.specs.Records.{verdict_of}
 use Rattle.bp_log.specs.declared.verdict.Verdict as logs
 use Rattle.bp_run.specs.Bodies.{Code}
 use Rattle.bp_run.specs.Text.{text}
-use Rattle.bp_feeds.proofs.Going.{rose_on}
 use Rattle.bp_core.specs.declared.stepping.Core.{Core}
 use Rattle.bp_scope.specs.declared.reading.Reading.{Reading}
 use Rattle.bp_scope.specs.Readings.{HasFailed}
-use Rattle.bp_told.specs.Logging.{LogFails, LogStays}
 use Rattle.bp_told.specs.Told.{Given, Waiting, WritesAll, WritesPart}
 use Rattle.bp_told.specs.declared.fault.RunFault.{RunFault}
 use Rattle.bp_told.specs.declared.fault.RunFault.TheVariants.{Write, LogWrite, Memory}
 use Rattle.bp_told.proofs.Told.{told_broken, broken_part}
 use Rattle.bp_session.specs.declared.report.Ending.{Ending}
-use Rattle.bp_session.specs.declared.report.Ending.TheVariants as ending
 use Rattle.bp_session.specs.declared.stop.Stop.{Stop}
 use Rattle.bp_session.specs.declared.stop.Stop.TheVariants as stop
-use Rattle.bp_session.specs.inner.Serving.{IsReady, IsServing, IsAllTold, IsBrokenOff, IsAllWritten, IsFrontWritten, IsServedTo, IsEnded, TellsAll, StopsServing, CanTellRest, IsCaused, EndIsCaused, ending_of, broke_at}
-use Rattle.bp_session.proofs.Causes.{caused_on}
+use Rattle.bp_session.specs.inner.Serving.{IsReady, IsServing, IsAllTold, IsBrokenOff, IsAllWritten, IsFrontWritten, IsServedTo, IsEnded, TellsAll, StopsServing, CanTellRest, ending_of, broke_at}
 
 -- no fault is a failed source
 pub broke_none : (f : RunFault) → broke_at (ending_of f) ≡ None
 broke_none Write = refl
 broke_none LogWrite = refl
 broke_none Memory = refl
-
-module _ {K L : Type 0} (faults : K → ℕ) (log_faults : L → ℕ) where
-  -- the ending of a fault has its cause
-  pub fault_ends : (f : RunFault) (x y : K) (a b : Option L) → IsCaused faults log_faults x y a b f → EndIsCaused faults log_faults x y a b (ending_of f)
-  fault_ends Write x y a b h = h
-  fault_ends LogWrite x y a b h = h
-  fault_ends Memory x y a b h = tt
-
-  module _ (made : L → Option (List ℕ)) (x y z : K) (a b c : Option L) (counts : faults x ≤ faults y) (stays : LogStays made log_faults a b) where
-    -- a cause of the later part is one of the whole
-    pub end_on : (e : Ending) → EndIsCaused faults log_faults y z b c e → EndIsCaused faults log_faults x z a c e
-    end_on (ending.Verdict v) h = tt
-    end_on (ending.Read j) h = tt
-    end_on ending.Write h = caused_on faults log_faults made x y z a b c counts stays Write h
-    end_on ending.LogWrite h = caused_on faults log_faults made x y z a b c counts stays LogWrite h
-    end_on ending.Memory h = tt
-
-    module _ (more : faults y ≤ faults z) (still : LogStays made log_faults b c) where
-      fails_still : (a b c : Option L) → LogStays made log_faults a b → LogStays made log_faults b c → LogFails log_faults a b → LogFails log_faults a c
-      fails_still None b c s t f = absurd f
-      fails_still (Some l) None c s t f = absurd f
-      fails_still (Some l) (Some m) None s t f = absurd t
-      fails_still (Some l) (Some m) (Some n) s t f = rose_on (log_faults l) (log_faults m) (log_faults n) f s.1 t.1
-
-      -- a cause of the earlier part is one of the whole
-      pub caused_still : (f : RunFault) → IsCaused faults log_faults x y a b f → IsCaused faults log_faults x z a c f
-      caused_still Write h = rose_on (faults x) (faults y) (faults z) h counts more
-      caused_still LogWrite h = fails_still a b c stays still h
-      caused_still Memory h = tt
-
-      -- what was broken off ends by its own fault or by another
-      pub front_ends : (f : RunFault) (e : Ending) → IsCaused faults log_faults x y a b f → (e ≡ ending_of f) ⊎ EndIsCaused faults log_faults y z b c e → EndIsCaused faults log_faults x z a c e
-      front_ends f e h (inl s) = subst (λ (w : Ending). EndIsCaused faults log_faults x z a c w) (sym s) (fault_ends f x z a c (caused_still f h))
-      front_ends f e h (inr s) = end_on e s
 
 module _ {L : Type 0} (written : L → Option (List ℕ)) (l : Code Origin PlainSet) (o : PlainOptions) (head : List ℕ) (first : Given L) (c : Core) where
   -- all that was told was written

@@ -7,6 +7,7 @@ use Rattle.js_data.proofs.Shared.{one_answer}
 use Rattle.js_program.specs.PlainProgram.{PlainProgram}
 use Rattle.js_value.specs.Value.{PlainSet}
 use Rattle.js_meaning.specs.Bodies.{Origin}
+use Rattle.bp_base.specs.declared.outside.Sink.{Ghosts}
 use Rattle.bp_base.specs.Pieces.{Gives, Appends, AppendsFront}
 use Rattle.bp_log.specs.Header.{PlainHeader}
 use Rattle.bp_log.specs.Logs.{header_text, records_text}
@@ -44,9 +45,10 @@ use Rattle.bp_told.proofs.Pieces.{appends_nothing, longer_front, records_text-ap
 use Rattle.bp_session.specs.declared.report.Ending.{Ending}
 use Rattle.bp_session.specs.declared.report.Ending.TheVariants as ending
 use Rattle.bp_session.specs.inner.Lending.{Begins}
+use Rattle.bp_session.specs.inner.Outlets.{ended_fault, IsCaused}
 use Rattle.bp_session.specs.Reports.{Wholly, Partly, BrokeAt, ComeBack, EndsAs}
 use Rattle.bp_log.specs.Verdicts.{IsQuiet}
-use Rattle.bp_session.specs.inner.Serving.{IsAllWritten, IsFrontWritten, IsEnded, EndsServing, EndIsCaused, broke_at}
+use Rattle.bp_session.specs.inner.Serving.{IsAllWritten, IsFrontWritten, IsEnded, EndsServing, broke_at}
 
 -- ---- what was written
 
@@ -156,11 +158,11 @@ module _ {L : Type 0} (written : L → Option (List ℕ)) (l : Code Origin Plain
   behind_ended ending.LogWrite i = behind_front written l o head first c now i
   behind_ended ending.Memory i = behind_front written l o head first c now i
 
-  module _ {K S : Type 0} (log_faults : L → ℕ) (faults : K → ℕ) (out_old out_new : K) (left : S → Option (List ℕ)) (source_faults : S → ℕ) (sources back : List S)
+  module _ {K S : Type 0} (g : Ghosts L) (k : Ghosts K) (out_old out_new : K) (left : S → Option (List ℕ)) (source_faults : S → ℕ) (sources back : List S)
       (came : AreBack left source_faults sources back c.arbiter.records) (many : length sources ≡ o.injectors) where
-    pub ends_as : (e : Ending) → IsEnded written l o head first c now e → EndIsCaused faults log_faults out_old out_new first.log now.log e →
+    pub ends_as : (e : Ending) → IsEnded written l o head first c now e → IfSome (ended_fault e) (IsCaused k g out_old out_new first.log now.log) →
         IfSome (broke_at e) (HasBroken left source_faults sources back c.arbiter.records) →
-        EndsAs written log_faults faults o.wait (text l o) head out_old out_new first now left source_faults sources back c.arbiter.records e
+        EndsAs written g.faults k.faults o.wait (text l o) head out_old out_new first now left source_faults sources back c.arbiter.records e
     ends_as (ending.Verdict v) i k b =
         let t = told_of l o c.arbiter.records (text_whole written l o head first c now i.1) in
         (i.0, wholly written l o head first c now i.1, λ waits q. whole_at left source_faults sources back c.arbiter.records came l o t.0 v many t.1 i.0 waits q)

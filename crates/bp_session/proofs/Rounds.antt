@@ -1,5 +1,5 @@
 -- Rounds of a session, and where they stop.
-use Rattle.std.proofs.Common.{◌≡◌, inl, inr, ℕ, true, false, List, take, drop, ap, sym, subst, ◌∙◌, take-append-drop, Option, Some}
+use Rattle.std.proofs.Common.{◌≡◌, inl, inr, ℕ, Bool, true, false, List, take, drop, ap, sym, subst, ◌∙◌, take-append-drop, Option, Some}
 use Rattle.std.specs.Prelude.{Result, Ok, Err, OnOk, OnErr, IfErr, IsErrAnd, option_map}
 use Rattle.bp_run.specs.Text.{text}
 use Rattle.bp_floor.specs.declared.phase.Phase.{Phase}
@@ -7,7 +7,7 @@ use Rattle.bp_floor.specs.declared.phase.Phase.TheVariants.{Rest, Over}
 use Rattle.bp_floor.specs.Floors.{is_idle}
 use Rattle.bp_core.specs.declared.stepping.Core.{Core}
 use Rattle.bp_core.specs.Cores.{KeepsProgram}
-use Rattle.bp_told.specs.Told.{Given, Waiting, IsTold}
+use Rattle.bp_told.specs.Told.{Given, Waiting, IsTold, WritesAll}
 use Rattle.bp_told.specs.declared.fault.RunFault.{RunFault}
 use Rattle.bp_told.specs.declared.fault.RunFault.TheVariants.{Memory}
 use Rattle.bp_turns.specs.Settled.{IsSettled, IsSomewhereHere}
@@ -16,9 +16,10 @@ use Rattle.bp_scope.specs.declared.reading.Reading.{Reading}
 use Rattle.bp_session.specs.declared.stop.Stop.{Stop}
 use Rattle.bp_session.specs.declared.stop.Stop.TheVariants as stop
 use Rattle.bp_session.specs.inner.Hearing.{HearsOn, StopsHearing}
-use Rattle.bp_session.specs.inner.Serving.{IsReady, IsUnwritten, TellsAll, ServesOn, BreaksServing, StillTold, PartTold, StopsTurning, StopsServing, LeadsOn, CutsAt, KeepsItems}
+use Rattle.bp_session.specs.inner.Serving.{IsReady, TellsAll, ServesOn, BreaksServing, StillTold, IsToldStill, StopsTurning, StopsServing, LeadsOn, CutsAt, KeepsItems}
 use Rattle.bp_session.proofs.Served.{serving_on, cut_off, stop_here, some_text, here_tells, ready_somewhere, ready_on}
 use Rattle.bp_session.proofs.Hears.{heard_kept}
+use Rattle.bp_session.proofs.Tells.{write_still}
 
 -- what a `?` hands on
 pub from_err : {T E : Type 0} (r : Result T E) (s : E) (P : E → Type 0) → IsErrAnd r (λ e. e ≡ s) → P s → IfErr r P
@@ -98,15 +99,13 @@ module _ {L : Type 0} (written : L → Option (List ℕ)) where
   pub still_none : (a : Given L) (w : Waiting) → StillTold written a w a w
   still_none a w text head first records lines t = t
 
-  -- writing failed
-  pub unwritten_stops : (old new : Given L) (w v : Waiting) (s : Stop) → IsUnwritten s → PartTold written old w new → StopsTurning written old w new v s
-  unwritten_stops old new w v (stop.Read j) h p = absurd h
-  unwritten_stops old new w v (stop.Broken e) h p = absurd h
-  unwritten_stops old new w v (stop.Unwritten e) h p = p
+  -- nothing was to be written
+  pub told_none : (a : Given L) (w : Waiting) (write : Bool) → write ≡ false → IsToldStill written write a w a w
+  told_none a w write e = record { still = still_none a w; all = λ yes. let no : false ≡ true = sym e ∙ yes in absurd (let z : ⊥ = cc in z) }
 
-  pub unwritten_all : {T : Type 0} (old new : Given L) (w v : Waiting) (r : Result T Stop) → IfErr r IsUnwritten → OnErr r (PartTold written old w new) → IfErr r (StopsTurning written old w new v)
-  unwritten_all old new w v (Ok x) h p = tt
-  unwritten_all old new w v (Err s) h p = unwritten_stops old new w v s h p
+  -- all was written
+  pub told_all : (old new : Given L) (w v : Waiting) (write : Bool) → WritesAll written old w new v → IsToldStill written write old w new v
+  told_all old new w v write h = record { still = write_still written old new w v h; all = λ yes. h }
 
   pub serves_none : (a : Core) (x : Given L) (u : Waiting) → ServesOn written a x u a x u
   serves_none a x u l o head first s = s

@@ -1,4 +1,5 @@
 -- What the contracts inside of this crate cite, and nothing that a command is promised by.
+pub mod Outlets
 pub mod Serving
 pub mod Hearing
 pub mod Lending

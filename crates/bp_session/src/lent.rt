@@ -1,5 +1,5 @@
 //! What a session owns and borrows while it is served.
-ghost use Rattle.std.specs.Prelude.{◌≡◌, ◌⊎◌, ◌≤◌, ◌<◌, ◌^◌, ℕ, List, [], All, length, Option, None, Err, false, IfSome};
+ghost use Rattle.std.specs.Prelude.{◌≡◌, ◌<◌, ◌^◌, ℕ, List, [], All, length, Some, None, Err, false, IfSome};
 ghost use Rattle.js_value.specs.Value.{PlainSet};
 ghost use Rattle.js_meaning.specs.Bodies.{Origin};
 ghost use Rattle.bp_log.specs.Options.{PlainOptions};
@@ -7,12 +7,13 @@ ghost use Rattle.bp_run.specs.Bodies.{Code};
 ghost use Rattle.bp_floor.specs.declared.phase.Phase.TheVariants as phase;
 ghost use Rattle.bp_hear.specs.Hearings.{AreHeard};
 ghost use Rattle.bp_scope.specs.Readings.{Pairs, IsHeld, GoesOnAs, HasFailed, AreBack};
-ghost use Rattle.bp_told.specs.Logging.{LogStays};
 ghost use Rattle.bp_told.specs.Told.{Given, given};
-ghost use Rattle.bp_session.specs.inner.Lending.{WritesTo};
-ghost use Rattle.bp_session.specs.inner.Serving.{IsReady, IsServing, IsBrokenOff, IsServedTo, CanTellRest, IsEnded, EndsServing, EndIsCaused, ending_of, broke_at};
+ghost use Rattle.bp_session.specs.inner.Hearing.{HearOn, CanServe};
+ghost use Rattle.bp_session.specs.inner.Outlets.{given_to, served_fault, ended_fault, WritesOn, WritesTo};
+ghost use Rattle.bp_session.specs.inner.Serving.{IsReady, IsServing, IsBrokenOff, IsServedTo, CanTellRest, IsEnded, EndsServing, ending_of, broke_at};
 
 use crate::calling::Calls;
+use crate::outlets::Outlets;
 use crate::report::Ending;
 use crate::serving::serve_on;
 use crate::showing::Shows;
@@ -43,23 +44,21 @@ fn ending_of(fault: RunFault) -> Ending
 fn write_front<K: Sink, L: Sink>(
     fault: RunFault,
     telling: &mut Telling,
-    out: &mut K,
-    log: &mut Option<L>,
+    outlets: &mut Outlets<'_, '_, K, L>,
 ) -> Ending
     ensures ends { (c : Core) (l : Code Origin PlainSet) (o : PlainOptions) (head : List ℕ)
         (first : Given L) →
-        IsBrokenOff L.written l o head first c (given K.written out.old log.old) telling.old fault →
-        IsEnded L.written l o head first c (given K.written out.new log.new) result }
-    ensures fault { (result ≡ ending_of fault) ⊎ EndIsCaused K.faults L.faults out.old out.new
-        log.old log.new result }
+        IsBrokenOff L.written l o head first c (given_to K.Sink outlets.old) telling.old fault →
+        IsEnded L.written l o head first c (given_to K.Sink outlets.new) result }
     ensures broke { broke_at result ≡ None }
-    ensures counts { K.faults out.old ≤ K.faults out.new }
-    ensures stays { LogStays L.made_as L.faults log.old log.new }
+    ensures writes { (first : Outlets K L) →
+        WritesTo K.Sink L.Sink first outlets.old (Some fault) →
+        WritesTo K.Sink L.Sink first outlets.new (ended_fault result) }
 {
     if fault == RunFault::LogWrite {
         return Ending::LogWrite;
     }
-    match telling.flush(out, log) {
+    match outlets.flush(telling) {
         Ok(()) => ending_of(fault),
         Err(other) => ending_of(other),
     }
@@ -71,25 +70,22 @@ fn write_read<K: Sink, L: Sink>(
     number: u32,
     core: &mut Core,
     telling: &mut Telling,
-    out: &mut K,
-    log: &mut Option<L>,
+    outlets: &mut Outlets<'_, '_, K, L>,
 ) -> Ending
-    requires ready { IsReady L.written core.old (given K.written out.old log.old) telling.old }
+    requires ready { IsReady L.written core.old (given_to K.Sink outlets.old) telling.old }
     requires rest { core.old.arbiter.phase ≡ phase.Rest }
     ensures ends { (l : Code Origin PlainSet) (o : PlainOptions) (head : List ℕ) (first : Given L) →
-        IsServing L.written l o head first core.old (given K.written out.old log.old) telling.old →
-        IsEnded L.written l o head first core.new (given K.written out.new log.new) result }
-    ensures cause { EndIsCaused K.faults L.faults out.old out.new log.old log.new result }
+        IsServing L.written l o head first core.old (given_to K.Sink outlets.old) telling.old →
+        IsEnded L.written l o head first core.new (given_to K.Sink outlets.new) result }
     ensures broke { IfSome (broke_at result) (λ j. j ≡ number) }
     ensures records { core.new.arbiter.records ≡ core.old.arbiter.records }
-    ensures counts { K.faults out.old ≤ K.faults out.new }
-    ensures stays { LogStays L.made_as L.faults log.old log.new }
+    ensures writes { WritesTo K.Sink L.Sink outlets.old outlets.new (ended_fault result) }
 {
     // For the proof: what the arbiter keeps.
     core.arbiter().keeps();
-    match tell(alloc, core, telling, out, log) {
-        Err(fault) => write_front(fault, telling, out, log),
-        Ok(()) => match telling.flush(out, log) {
+    match tell(alloc, core, telling, outlets) {
+        Err(fault) => write_front(fault, telling, outlets),
+        Ok(()) => match outlets.flush(telling) {
             Ok(()) => Ending::Read(number),
             Err(fault) => ending_of(fault),
         },
@@ -102,31 +98,28 @@ fn ended<S: Source, K: Sink, L: Sink>(
     served: Result<Verdict, Stop>,
     core: &mut Core,
     telling: &mut Telling,
-    out: &mut K,
-    log: &mut Option<L>,
+    outlets: &mut Outlets<'_, '_, K, L>,
     readings: &Vec<Reading<S>>,
 ) -> Ending
-    requires rest { CanTellRest L.written core.old (given K.written out.old log.old) telling.old
+    requires rest { CanTellRest L.written core.old (given_to K.Sink outlets.old) telling.old
         served }
     ensures ends { (l : Code Origin PlainSet) (o : PlainOptions) (head : List ℕ) (first : Given L) →
-        IsServedTo L.written l o head first core.old (given K.written out.old log.old) telling.old
+        IsServedTo L.written l o head first core.old (given_to K.Sink outlets.old) telling.old
         readings.now.items served →
-        IsEnded L.written l o head first core.new (given K.written out.new log.new) result }
-    ensures cause { (first : K) (first_log : Option L) →
-        WritesTo K.faults L.made_as L.faults served first out.old first_log log.old →
-        EndIsCaused K.faults L.faults first out.new first_log log.new result }
+        IsEnded L.written l o head first core.new (given_to K.Sink outlets.new) result }
     ensures broke { IfSome (broke_at result) (λ j. served ≡ Err (Stop.Read j)) }
     ensures records { core.new.arbiter.records ≡ core.old.arbiter.records }
-    ensures counts { K.faults out.old ≤ K.faults out.new }
-    ensures stays { LogStays L.made_as L.faults log.old log.new }
+    ensures writes { (first : Outlets K L) →
+        WritesTo K.Sink L.Sink first outlets.old (served_fault served) →
+        WritesTo K.Sink L.Sink first outlets.new (ended_fault result) }
 {
     match served {
-        Ok(verdict) => match telling.flush(out, log) {
+        Ok(verdict) => match outlets.flush(telling) {
             Ok(()) => Ending::Verdict(verdict),
             Err(fault) => ending_of(fault),
         },
-        Err(Stop::Read(number)) => write_read(alloc, number, core, telling, out, log),
-        Err(Stop::Broken(fault)) => write_front(fault, telling, out, log),
+        Err(Stop::Read(number)) => write_read(alloc, number, core, telling, outlets),
+        Err(Stop::Broken(fault)) => write_front(fault, telling, outlets),
         Err(Stop::Unwritten(fault)) => ending_of(fault),
     }
 }
@@ -155,23 +148,17 @@ fn serve_parts<S: Source + Drop, R: Threads + Wait + Sync, K: Sink, L: Sink, V: 
     alloc: Global,
     mut calls: Option<Calls<'_>>,
     parts: &mut Parts<S, V>,
-    out: &mut K,
-    log: &mut Option<L>,
+    outlets: &mut Outlets<'_, '_, K, L>,
     readings: &mut Vec<Reading<S>>,
 )
-    requires ready { IsReady L.written parts.old.core (given K.written out.old log.old)
-        parts.old.telling }
-    requires inside { parts.old.core.out ≡ false }
-    requires few { length readings.old.items < 2 ^ 32 }
-    requires heard { AreHeard (λ r. r.hearing) parts.old.core.arbiter.records readings.old.items }
-    ensures ends { EndsServing L.written parts.old.core (given K.written out.old log.old)
-        parts.old.telling parts.new.core (given K.written out.new log.new) parts.new.end }
+    requires can { CanServe L.written parts.old.core (given_to K.Sink outlets.old)
+        parts.old.telling readings.old.items }
+    ensures ends { EndsServing L.written parts.old.core (given_to K.Sink outlets.old)
+        parts.old.telling parts.new.core (given_to K.Sink outlets.new) parts.new.end }
     ensures broke { IfSome (broke_at parts.new.end) (HasFailed readings.new.items) }
-    ensures heard { AreHeard (λ r. r.hearing) parts.new.core.arbiter.records readings.new.items }
-    ensures goes_on { Pairs (GoesOnAs S.left S.faults) readings.old.items readings.new.items }
-    ensures cause { EndIsCaused K.faults L.faults out.old out.new log.old log.new parts.new.end }
-    ensures counts { K.faults out.old ≤ K.faults out.new }
-    ensures stays { LogStays L.made_as L.faults log.old log.new }
+    ensures hears { HearOn S.left S.faults parts.new.core.arbiter.records readings.old.items
+        readings.new.items }
+    ensures writes { WritesTo K.Sink L.Sink outlets.old outlets.new (ended_fault parts.new.end) }
 {
     let parallelism = parts.parallelism;
     let core = &mut parts.core;
@@ -183,13 +170,12 @@ fn serve_parts<S: Source + Drop, R: Threads + Wait + Sync, K: Sink, L: Sink, V: 
         core,
         parallelism,
         telling,
-        out,
-        log,
+        outlets,
         &mut calls,
         readings,
         shows,
     );
-    parts.end = ended(alloc, served, core, telling, out, log, readings);
+    parts.end = ended(alloc, served, core, telling, outlets, readings);
 }
 
 /// Serves the run to its end without injectors: no thread is made, no lock is taken and no bell is rung.
@@ -209,15 +195,16 @@ pub(crate) fn serve_alone<S: Source + Drop, R: Threads + Wait + Sync, K: Sink, L
     ensures ends { EndsServing L.written parts.old.core (given K.written out.old log.old)
         parts.old.telling parts.new.core (given K.written out.new log.new) parts.new.end }
     ensures broke { broke_at parts.new.end ≡ None }
-    ensures cause { EndIsCaused K.faults L.faults out.old out.new log.old log.new parts.new.end }
     ensures many { length parts.new.back.items ≡ length inputs.items }
     ensures back { AreBack S.left S.faults inputs.items parts.new.back.items
         parts.new.core.arbiter.records }
-    ensures counts { K.faults out.old ≤ K.faults out.new }
-    ensures stays { LogStays L.made_as L.faults log.old log.new }
+    ensures writes { WritesOn K.Sink L.Sink out.old out.new log.old log.new
+        (ended_fault parts.new.end) }
 {
     let mut readings = Vec::new(alloc);
-    serve_parts(rt, alloc, None, parts, out, log, &mut readings);
+    let mut outlets = Outlets { out, log };
+    serve_parts(rt, alloc, None, parts, &mut outlets, &mut readings);
+    let Outlets { out: _, log: _ } = outlets;
     parts.back = inputs;
 }
 
@@ -226,7 +213,7 @@ impl<K: Sink, L: Sink, S: Source + Drop, R: Threads + Wait + Sync, V: Shows> Ser
     ghost use denote.Param.Send.{IsSync};
     ghost use Rattle.bp_session.specs.inner.Lending.{IsServed};
 
-    ghost served = { λ o n. IsServed K.written K.faults L.written L.made_as L.faults o n };
+    ghost served = { λ o n. IsServed K.Sink L.Sink o n };
 
     ghost ready = { λ h. IsSync R.row × IsReady L.written h.parts.now.core
         (given K.written h.out.now h.log.now) h.parts.now.telling
@@ -247,20 +234,24 @@ impl<K: Sink, L: Sink, S: Source + Drop, R: Threads + Wait + Sync, V: Shows> Ser
         requires heard { AreHeard (λ r. r.hearing) self.old.parts.now.core.arbiter.records
             readings.old.items }
         requires held { All IsHeld readings.old.items }
-        ensures served { IsServed K.written K.faults L.written L.made_as L.faults self.old self.new }
+        ensures served { IsServed K.Sink L.Sink self.old self.new }
         ensures heard { AreHeard (λ r. r.hearing) self.new.parts.now.core.arbiter.records
             readings.new.items }
         ensures goes_on { Pairs (GoesOnAs S.left S.faults) readings.old.items readings.new.items }
         ensures broke { IfSome (broke_at self.new.parts.now.end) (HasFailed readings.new.items) }
     {
         let calls = Some(Calls::new(bell));
-        serve_parts(rt, alloc, calls, self.parts, self.out, self.log, readings);
+        let mut outlets = Outlets {
+            out: &mut *self.out,
+            log: &mut *self.log,
+        };
+        serve_parts(rt, alloc, calls, self.parts, &mut outlets, readings);
+        let Outlets { out: _, log: _ } = outlets;
     }
 
     fn give_back(&mut self, sources: Vec<S>)
         ensures served { (first : Lent K L S V) →
-            IsServed K.written K.faults L.written L.made_as L.faults first self.old →
-            IsServed K.written K.faults L.written L.made_as L.faults first self.new }
+            IsServed K.Sink L.Sink first self.old → IsServed K.Sink L.Sink first self.new }
         ensures records { self.new.parts.now.core.arbiter.records
             ≡ self.old.parts.now.core.arbiter.records }
         ensures broke { broke_at self.new.parts.now.end ≡ broke_at self.old.parts.now.end }

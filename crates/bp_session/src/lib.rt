@@ -5,6 +5,7 @@
 mod calling;
 mod hearing;
 mod lent;
+mod outlets;
 mod report;
 mod running;
 mod serving;

@@ -15,7 +15,8 @@ ghost use Rattle.bp_scope.specs.Places.{HasRoom};
 ghost use Rattle.bp_scope.specs.Readings.{AreBack, HasBroken};
 ghost use Rattle.bp_session.specs.inner.Lending.{Begins};
 ghost use Rattle.bp_session.specs.Reports.{ComeBack, EndsAs};
-ghost use Rattle.bp_session.specs.inner.Serving.{IsReady, EndsServing, EndIsCaused, broke_at};
+ghost use Rattle.bp_session.specs.inner.Outlets.{ended_fault, WritesOn};
+ghost use Rattle.bp_session.specs.inner.Serving.{IsReady, EndsServing, broke_at};
 
 use crate::lent::{Lent, Parts, serve_alone};
 use crate::report::{Ending, Report};
@@ -82,15 +83,14 @@ fn served<S: Source + Send + Drop, R: Threads + Wait + Sync, K: Sink, L: Sink, V
     requires few { length inputs.items < 2 ^ 32 }
     ensures ends { EndsServing L.written parts.old.core (given K.written out.old log.old)
         parts.old.telling parts.new.core (given K.written out.new log.new) parts.new.end }
-    ensures cause { EndIsCaused K.faults L.faults out.old out.new log.old log.new parts.new.end }
     ensures many { length parts.new.back.items ≡ length inputs.items }
     ensures back { AreBack S.left S.faults inputs.items parts.new.back.items
         parts.new.core.arbiter.records }
     ensures broke { IfSome (broke_at parts.new.end)
         (HasBroken S.left S.faults inputs.items parts.new.back.items
         parts.new.core.arbiter.records) }
-    ensures counts { K.faults out.old ≤ K.faults out.new }
-    ensures stays { LogStays L.made_as L.faults log.old log.new }
+    ensures writes { WritesOn K.Sink L.Sink out.old out.new log.old log.new
+        (ended_fault parts.new.end) }
 {
     if inputs.is_empty() {
         serve_alone(rt, alloc, inputs, parts, out, log);

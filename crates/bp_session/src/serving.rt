@@ -1,20 +1,20 @@
 //! The loop that serves a session.
-ghost use Rattle.std.specs.Prelude.{◌≡◌, ◌≤◌, ◌<◌, ◌^◌, length, Some, false, IfOk, IfErr, OnOk, OnErr, IsTrue};
+ghost use Rattle.std.specs.Prelude.{◌≡◌, Some, false, IfOk, IfErr, OnOk, OnErr};
 ghost use Rattle.std.specs.List.{list_any};
 ghost use Rattle.bp_log.specs.Records.{verdict_of};
 ghost use Rattle.bp_floor.specs.declared.phase.Phase.TheVariants as phase;
 ghost use Rattle.bp_core.specs.Cores.{KeepsProgram};
-ghost use Rattle.bp_hear.specs.Hearings.{AreHeard};
 ghost use Rattle.bp_scope.specs.Readings.{Pairs, GoesOnAs};
-ghost use Rattle.bp_told.specs.Logging.{LogStays};
-ghost use Rattle.bp_told.specs.Told.{given, WritesAll};
-ghost use Rattle.bp_session.specs.inner.Hearing.{AreAsHeard};
+ghost use Rattle.bp_told.specs.Told.{WritesAll};
+ghost use Rattle.bp_session.specs.inner.Hearing.{AreAsHeard, HearOn, CanServe};
 ghost use Rattle.bp_session.specs.inner.Turning.{turns_here, MakeTurns, IsWaiting};
-ghost use Rattle.bp_session.specs.inner.Serving.{IsReady, ServesOn, BreaksServing, StillTold, StopsServing, IsCaused, StopIsCaused, StopsTurning, TellsAll, LeadsOn, CutsAt, KeepsItems};
+ghost use Rattle.bp_session.specs.inner.Outlets.{given_to, told_fault, served_fault, WritesTo};
+ghost use Rattle.bp_session.specs.inner.Serving.{IsReady, ServesOn, BreaksServing, IsToldStill, StopsServing, StopsTurning, TellsAll, LeadsOn, CutsAt, KeepsItems};
 ghost use Rattle.bp_turns.specs.Settled.{IsSomewhereHere, IsSettled};
 
 use crate::calling::Calls;
 use crate::hearing::hear_all;
+use crate::outlets::Outlets;
 use crate::showing::Shows;
 use crate::stop::Stop;
 use crate::telling::{tell, write};
@@ -35,19 +35,16 @@ fn write_and_show<R: Threads + Wait + Sync, K: Sink, L: Sink, V: Shows>(
     alloc: Global,
     core: &Core,
     telling: &mut Telling,
-    out: &mut K,
-    log: &mut Option<L>,
+    outlets: &mut Outlets<'_, '_, K, L>,
     shows: &mut V,
 ) -> Result<(), Stop>
-    ensures all { OnOk result (WritesAll L.written (given K.written out.old log.old) telling.old
-        (given K.written out.new log.new) telling.new) }
-    ensures stops { IfErr result (StopsTurning L.written (given K.written out.old log.old)
-        telling.old (given K.written out.new log.new) telling.new) }
-    ensures cause { IfErr result (StopIsCaused K.faults L.faults out.old out.new log.old log.new) }
-    ensures counts { K.faults out.old ≤ K.faults out.new }
-    ensures stays { LogStays L.made_as L.faults log.old log.new }
+    ensures all { OnOk result (WritesAll L.written (given_to K.Sink outlets.old) telling.old
+        (given_to K.Sink outlets.new) telling.new) }
+    ensures stops { IfErr result (StopsTurning L.written (given_to K.Sink outlets.old) telling.old
+        (given_to K.Sink outlets.new) telling.new) }
+    ensures writes { WritesTo K.Sink L.Sink outlets.old outlets.new (served_fault result) }
 {
-    write(telling, out, log)?;
+    write(telling, outlets)?;
     shows.show(rt, alloc, core)?;
     Ok(())
 }
@@ -59,31 +56,25 @@ fn turn_here<S: Source, R: Threads + Wait + Sync, K: Sink, L: Sink, V: Shows>(
     alloc: Global,
     core: &Core,
     telling: &mut Telling,
-    out: &mut K,
-    log: &mut Option<L>,
+    outlets: &mut Outlets<'_, '_, K, L>,
     readings: &mut Vec<Reading<S>>,
     shows: &mut V,
 ) -> Result<bool, Stop>
     requires waiting { IsWaiting core.now }
-    ensures still { OnOk result (StillTold L.written (given K.written out.old log.old) telling.old
-        (given K.written out.new log.new) telling.new) }
-    ensures all { IfOk result (λ some. IsTrue some → WritesAll L.written
-        (given K.written out.old log.old) telling.old (given K.written out.new log.new)
-        telling.new) }
-    ensures stops { IfErr result (StopsTurning L.written (given K.written out.old log.old)
-        telling.old (given K.written out.new log.new) telling.new) }
+    ensures told { IfOk result (λ some. IsToldStill L.written some (given_to K.Sink outlets.old)
+        telling.old (given_to K.Sink outlets.new) telling.new) }
+    ensures stops { IfErr result (StopsTurning L.written (given_to K.Sink outlets.old) telling.old
+        (given_to K.Sink outlets.new) telling.new) }
     ensures some { IfOk result (λ some. some ≡ list_any turns_here readings.old.items) }
     ensures turns { OnOk result (MakeTurns readings.old.items readings.new.items) }
     ensures goes_on { Pairs (GoesOnAs S.left S.faults) readings.old.items readings.new.items }
     ensures hearing { AreAsHeard readings.old.items readings.new.items }
-    ensures cause { IfErr result (StopIsCaused K.faults L.faults out.old out.new log.old log.new) }
-    ensures counts { K.faults out.old ≤ K.faults out.new }
-    ensures stays { LogStays L.made_as L.faults log.old log.new }
+    ensures writes { WritesTo K.Sink L.Sink outlets.old outlets.new (served_fault result) }
 {
     if !some_turn_here(readings) {
         return Ok(false);
     }
-    write_and_show(rt, alloc, core, telling, out, log, shows)?;
+    write_and_show(rt, alloc, core, telling, outlets, shows)?;
     turn_all_here(readings)?;
     Ok(true)
 }
@@ -103,27 +94,21 @@ fn wait_where<R: Threads + Wait + Sync, K: Sink, L: Sink, V: Shows>(
     waits: bool,
     core: &Core,
     telling: &mut Telling,
-    out: &mut K,
-    log: &mut Option<L>,
+    outlets: &mut Outlets<'_, '_, K, L>,
     calls: &mut Option<Calls<'_>>,
     shows: &mut V,
 ) -> Result<(), Stop>
     requires waiting { IsWaiting core.now }
-    ensures still { OnOk result (StillTold L.written (given K.written out.old log.old) telling.old
-        (given K.written out.new log.new) telling.new) }
-    ensures all { OnOk result (IsTrue waits → WritesAll L.written
-        (given K.written out.old log.old) telling.old (given K.written out.new log.new)
-        telling.new) }
-    ensures stops { IfErr result (StopsTurning L.written (given K.written out.old log.old)
-        telling.old (given K.written out.new log.new) telling.new) }
-    ensures cause { IfErr result (StopIsCaused K.faults L.faults out.old out.new log.old log.new) }
-    ensures counts { K.faults out.old ≤ K.faults out.new }
-    ensures stays { LogStays L.made_as L.faults log.old log.new }
+    ensures told { OnOk result (IsToldStill L.written waits (given_to K.Sink outlets.old)
+        telling.old (given_to K.Sink outlets.new) telling.new) }
+    ensures stops { IfErr result (StopsTurning L.written (given_to K.Sink outlets.old) telling.old
+        (given_to K.Sink outlets.new) telling.new) }
+    ensures writes { WritesTo K.Sink L.Sink outlets.old outlets.new (served_fault result) }
 {
     if !waits {
         return Ok(());
     }
-    write_and_show(rt, alloc, core, telling, out, log, shows)?;
+    write_and_show(rt, alloc, core, telling, outlets, shows)?;
     wait_at(rt, calls);
     Ok(())
 }
@@ -132,24 +117,18 @@ fn wait_where<R: Threads + Wait + Sync, K: Sink, L: Sink, V: Shows>(
 fn write_where<K: Sink, L: Sink>(
     heard: bool,
     telling: &mut Telling,
-    out: &mut K,
-    log: &mut Option<L>,
+    outlets: &mut Outlets<'_, '_, K, L>,
 ) -> Result<(), Stop>
-    ensures still { OnOk result (StillTold L.written (given K.written out.old log.old) telling.old
-        (given K.written out.new log.new) telling.new) }
-    ensures all { OnOk result (IsTrue heard → WritesAll L.written
-        (given K.written out.old log.old) telling.old (given K.written out.new log.new)
-        telling.new) }
-    ensures stops { IfErr result (StopsTurning L.written (given K.written out.old log.old)
-        telling.old (given K.written out.new log.new) telling.new) }
-    ensures cause { IfErr result (StopIsCaused K.faults L.faults out.old out.new log.old log.new) }
-    ensures counts { K.faults out.old ≤ K.faults out.new }
-    ensures stays { LogStays L.made_as L.faults log.old log.new }
+    ensures told { OnOk result (IsToldStill L.written heard (given_to K.Sink outlets.old)
+        telling.old (given_to K.Sink outlets.new) telling.new) }
+    ensures stops { IfErr result (StopsTurning L.written (given_to K.Sink outlets.old) telling.old
+        (given_to K.Sink outlets.new) telling.new) }
+    ensures writes { WritesTo K.Sink L.Sink outlets.old outlets.new (served_fault result) }
 {
     if !heard {
         return Ok(());
     }
-    write(telling, out, log)
+    write(telling, outlets)
 }
 
 /// An injector that ran out of memory has halted the bell: then the session ends out of memory too.
@@ -202,27 +181,22 @@ fn round<S: Source, R: Threads + Wait + Sync, K: Sink, L: Sink, V: Shows>(
     alloc: Global,
     core: &mut Core,
     telling: &mut Telling,
-    out: &mut K,
-    log: &mut Option<L>,
+    outlets: &mut Outlets<'_, '_, K, L>,
     calls: &mut Option<Calls<'_>>,
     readings: &mut Vec<Reading<S>>,
     shows: &mut V,
 ) -> Result<bool, Stop>
-    requires ready { IsReady L.written core.old (given K.written out.old log.old) telling.old }
-    requires whole { core.old.broken ≡ false }
+    requires can { CanServe L.written core.old (given_to K.Sink outlets.old) telling.old
+        readings.old.items }
     requires rest { core.old.arbiter.phase ≡ phase.Rest }
-    requires few { length readings.old.items < 2 ^ 32 }
-    requires heard { AreHeard (λ r. r.hearing) core.old.arbiter.records readings.old.items }
-    ensures serves { OnOk result (ServesOn L.written core.old (given K.written out.old log.old)
-        telling.old core.new (given K.written out.new log.new) telling.new) }
+    ensures serves { OnOk result (ServesOn L.written core.old (given_to K.Sink outlets.old)
+        telling.old core.new (given_to K.Sink outlets.new) telling.new) }
     ensures inside { OnOk result (core.new.out ≡ core.old.out) }
-    ensures stops { IfErr result (StopsServing L.written core.old (given K.written out.old log.old)
-        telling.old core.new (given K.written out.new log.new) telling.new readings.new.items) }
-    ensures heard { AreHeard (λ r. r.hearing) core.new.arbiter.records readings.new.items }
-    ensures goes_on { Pairs (GoesOnAs S.left S.faults) readings.old.items readings.new.items }
-    ensures cause { IfErr result (StopIsCaused K.faults L.faults out.old out.new log.old log.new) }
-    ensures counts { K.faults out.old ≤ K.faults out.new }
-    ensures stays { LogStays L.made_as L.faults log.old log.new }
+    ensures stops { IfErr result (StopsServing L.written core.old (given_to K.Sink outlets.old)
+        telling.old core.new (given_to K.Sink outlets.new) telling.new readings.new.items) }
+    ensures hears { HearOn S.left S.faults core.new.arbiter.records readings.old.items
+        readings.new.items }
+    ensures writes { WritesTo K.Sink L.Sink outlets.old outlets.new (served_fault result) }
 {
     ask_halt(rt, calls)?;
     let before = core.arbiter().records().len();
@@ -233,8 +207,8 @@ fn round<S: Source, R: Threads + Wait + Sync, K: Sink, L: Sink, V: Shows>(
     if heard || picked != Picked::Wait {
         return Ok(heard);
     }
-    let turned = turn_here(rt, alloc, core, telling, out, log, readings, shows)?;
-    wait_where(rt, alloc, !turned, core, telling, out, log, calls, shows)?;
+    let turned = turn_here(rt, alloc, core, telling, outlets, readings, shows)?;
+    wait_where(rt, alloc, !turned, core, telling, outlets, calls, shows)?;
     Ok(false)
 }
 
@@ -270,28 +244,25 @@ fn settle_and_tell<C: Carrier, K: Sink, L: Sink>(
     core: &mut Core,
     carrier: &C,
     telling: &mut Telling,
-    out: &mut K,
-    log: &mut Option<L>,
+    outlets: &mut Outlets<'_, '_, K, L>,
 ) -> Result<(), RunFault>
     requires can_carry { C.can_carry carrier.now }
-    requires ready { IsReady L.written core.old (given K.written out.old log.old) telling.old }
+    requires ready { IsReady L.written core.old (given_to K.Sink outlets.old) telling.old }
     requires inside { core.old.out ≡ false }
-    ensures serves { OnOk result (ServesOn L.written core.old (given K.written out.old log.old)
-        telling.old core.new (given K.written out.new log.new) telling.new) }
-    ensures tells { OnOk result (TellsAll L.written core.old (given K.written out.old log.old)
-        telling.old core.new (given K.written out.new log.new) telling.new) }
+    ensures serves { OnOk result (ServesOn L.written core.old (given_to K.Sink outlets.old)
+        telling.old core.new (given_to K.Sink outlets.new) telling.new) }
+    ensures tells { OnOk result (TellsAll L.written core.old (given_to K.Sink outlets.old)
+        telling.old core.new (given_to K.Sink outlets.new) telling.new) }
     ensures settled { OnOk result (IsSettled core.new.arbiter.phase) }
     ensures breaks { IfErr result (BreaksServing L.written core.old
-        (given K.written out.old log.old) telling.old core.new (given K.written out.new log.new)
+        (given_to K.Sink outlets.old) telling.old core.new (given_to K.Sink outlets.new)
         telling.new) }
     ensures items { KeepsItems core.old.arbiter.records core.new.arbiter.records }
     ensures inside { OnOk result (core.new.out ≡ false) }
-    ensures cause { IfErr result (IsCaused K.faults L.faults out.old out.new log.old log.new) }
-    ensures counts { K.faults out.old ≤ K.faults out.new }
-    ensures stays { LogStays L.made_as L.faults log.old log.new }
+    ensures writes { WritesTo K.Sink L.Sink outlets.old outlets.new (told_fault result) }
 {
     settle_core(alloc, core, carrier)?;
-    tell(alloc, core, telling, out, log)
+    tell(alloc, core, telling, outlets)
 }
 
 /// Serves the run to its verdict: has what is there of the injectors enter, makes what comes next, has
@@ -304,36 +275,31 @@ pub(crate) fn serve_on<S: Source, R: Threads + Wait + Sync, K: Sink, L: Sink, V:
     core: &mut Core,
     parallelism: Parallelism,
     telling: &mut Telling,
-    out: &mut K,
-    log: &mut Option<L>,
+    outlets: &mut Outlets<'_, '_, K, L>,
     calls: &mut Option<Calls<'_>>,
     readings: &mut Vec<Reading<S>>,
     shows: &mut V,
 ) -> Result<Verdict, Stop>
-    requires ready { IsReady L.written core.old (given K.written out.old log.old) telling.old }
-    requires inside { core.old.out ≡ false }
-    requires few { length readings.old.items < 2 ^ 32 }
-    requires heard { AreHeard (λ r. r.hearing) core.old.arbiter.records readings.old.items }
+    requires can { CanServe L.written core.old (given_to K.Sink outlets.old) telling.old
+        readings.old.items }
     ensures verdict { IfOk result (λ v. verdict_of core.new.arbiter.records ≡ Some v) }
-    ensures tells { OnOk result (TellsAll L.written core.old (given K.written out.old log.old)
-        telling.old core.new (given K.written out.new log.new) telling.new) }
-    ensures stops { IfErr result (StopsServing L.written core.old (given K.written out.old log.old)
-        telling.old core.new (given K.written out.new log.new) telling.new readings.new.items) }
-    ensures heard { AreHeard (λ r. r.hearing) core.new.arbiter.records readings.new.items }
-    ensures goes_on { Pairs (GoesOnAs S.left S.faults) readings.old.items readings.new.items }
-    ensures cause { IfErr result (StopIsCaused K.faults L.faults out.old out.new log.old log.new) }
-    ensures counts { K.faults out.old ≤ K.faults out.new }
-    ensures stays { LogStays L.made_as L.faults log.old log.new }
+    ensures tells { OnOk result (TellsAll L.written core.old (given_to K.Sink outlets.old)
+        telling.old core.new (given_to K.Sink outlets.new) telling.new) }
+    ensures stops { IfErr result (StopsServing L.written core.old (given_to K.Sink outlets.old)
+        telling.old core.new (given_to K.Sink outlets.new) telling.new readings.new.items) }
+    ensures hears { HearOn S.left S.faults core.new.arbiter.records readings.old.items
+        readings.new.items }
+    ensures writes { WritesTo K.Sink L.Sink outlets.old outlets.new (served_fault result) }
 {
     let workers = Workers { rt, parallelism };
     let mut heard = false;
     for _ in rt.forever() {
-        settle_and_tell(alloc, core, &workers, telling, out, log)?;
+        settle_and_tell(alloc, core, &workers, telling, outlets)?;
         if core.arbiter().phase() == Phase::Over {
             return Ok(verdict_shown(rt, alloc, core, shows)?);
         }
-        write_where(heard, telling, out, log)?;
-        heard = round(rt, alloc, core, telling, out, log, calls, readings, shows)?;
+        write_where(heard, telling, outlets)?;
+        heard = round(rt, alloc, core, telling, outlets, calls, readings, shows)?;
     }
     unreachable!()
 }

@@ -1,17 +1,18 @@
 -- Injectors that are heard while a run is served.
-use Rattle.std.specs.Prelude.{◌≡◌, ◌⊎◌, ℕ, ◌+◌, ◌<◌, List, ◌++◌, length, Some, slice_index_or}
+use Rattle.std.specs.Prelude.{◌≡◌, ◌⊎◌, ℕ, ◌+◌, ◌<◌, ◌^◌, false, List, ◌++◌, length, Option, Some, slice_index_or}
 use Rattle.bp_log.specs.declared.item.Item.TheVariants as item
 use Rattle.bp_log.specs.declared.record.Record.{Record}
 use Rattle.bp_core.specs.declared.stepping.Core.{Core}
 use Rattle.bp_core.specs.Cores.{KeepsProgram}
 use Rattle.bp_steps.specs.Merging.{items_by}
 use Rattle.bp_hear.specs.declared.hearing.TheConstants.{MOST_HEARD}
-use Rattle.bp_hear.specs.Hearings.{IsRecorded, Hears, IsHeardOut}
+use Rattle.bp_hear.specs.Hearings.{IsRecorded, AreHeard, Hears, IsHeardOut}
 use Rattle.bp_scope.specs.declared.reading.Reading.{Reading}
-use Rattle.bp_scope.specs.Readings.{HasFailed}
-use Rattle.bp_session.specs.inner.Serving.{LeadsOn}
+use Rattle.bp_scope.specs.Readings.{HasFailed, Pairs, GoesOnAs}
+use Rattle.bp_session.specs.inner.Serving.{IsReady, LeadsOn}
 use Rattle.bp_session.specs.declared.stop.Stop.{Stop}
 use Rattle.bp_session.specs.declared.stop.Stop.TheVariants.{Read, Broken, Unwritten}
+use Rattle.bp_told.specs.Told.{Given, Waiting}
 use Rattle.bp_told.specs.declared.fault.RunFault.TheVariants.{Memory}
 
 -- wherever the core was, it was led on, on the same program
@@ -63,3 +64,18 @@ module _ {S : Type 0} where
     pub many : length new ≡ length old
     pub each : (k : ℕ) (d e : Reading S) → k < length old
         → (slice_index_or new k e).hearing ≡ (slice_index_or old k d).hearing
+
+  -- each goes on as a reading does, and what was taken of it is recorded
+  pub record HearOn (left : S → Option (List ℕ)) (faults : S → ℕ) (records : List Record)
+      (old new : List (Reading S)) : Type 0 where
+    pub heard : AreHeard (λ (r : Reading S). r.hearing) records new
+    pub goes_on : Pairs (GoesOnAs left faults) old new
+
+  -- Some run is served, its jobs are not out, and what was taken of its injectors, which are few
+  -- enough for their numbers, is recorded.
+  pub record CanServe {L : Type 0} (written : L → Option (List ℕ)) (c : Core) (now : Given L)
+      (w : Waiting) (readings : List (Reading S)) : Type 0 where
+    pub ready : IsReady written c now w
+    pub inside : c.out ≡ false
+    pub few : length readings < 2 ^ 32
+    pub heard : AreHeard (λ (r : Reading S). r.hearing) c.arbiter.records readings

@@ -1,5 +1,5 @@
 -- A run that is served.
-use Rattle.std.specs.Prelude.{Result, Ok, Err, ◌≡◌, ℕ, false, List, ◌++◌, take, Option, Some, None, IsSome}
+use Rattle.std.specs.Prelude.{Result, Ok, Err, ◌≡◌, ℕ, Bool, false, IsTrue, List, ◌++◌, take, Option, Some, None, IsSome}
 use Rattle.js_value.specs.Value.{PlainSet}
 use Rattle.js_meaning.specs.Bodies.{Origin}
 use Rattle.bp_log.specs.Options.{PlainOptions}
@@ -15,10 +15,9 @@ use Rattle.bp_steps.specs.Steps.{Moment}
 use Rattle.bp_floor.specs.declared.phase.Phase.TheVariants.{Rest}
 use Rattle.bp_arbiter.specs.Arbiters.{Tells, code_in, options_in}
 use Rattle.bp_core.specs.declared.stepping.Core.{Core}
-use Rattle.bp_base.specs.Counts.{Rose}
-use Rattle.bp_told.specs.Logging.{LogFails}
+use Rattle.bp_core.specs.Cores.{KeepsProgram}
 use Rattle.bp_told.specs.Order.{Texts, PrintsBehind}
-use Rattle.bp_told.specs.Told.{Given, Waiting, IsTold, IsBroken, IsWritten, IsPartly}
+use Rattle.bp_told.specs.Told.{Given, Waiting, IsTold, IsBroken, IsWritten, IsPartly, WritesAll}
 use Rattle.bp_told.specs.declared.fault.RunFault.{RunFault}
 use Rattle.bp_turns.specs.Settled.{IsHere}
 use Rattle.bp_told.specs.declared.fault.RunFault.TheVariants as fault
@@ -28,37 +27,6 @@ use Rattle.bp_session.specs.declared.stop.Stop.{Stop}
 use Rattle.bp_session.specs.declared.stop.Stop.TheVariants as stop
 use Rattle.bp_session.specs.declared.report.Ending.{Ending}
 use Rattle.bp_session.specs.declared.report.Ending.TheVariants.{Verdict, Read, Write, LogWrite, Memory}
-
--- a fault comes only of the output or of the log that failed
-abbrev pub IsCaused : {K L : Type 0} → (K → ℕ) → (L → ℕ) → K → K → Option L → Option L → RunFault →
-    Type 0
-IsCaused faults log_faults out_old out_new old new fault.Write =
-    Rose (faults out_old) (faults out_new)
-IsCaused faults log_faults out_old out_new old new fault.LogWrite = LogFails log_faults old new
-IsCaused faults log_faults out_old out_new old new fault.Memory = Unit {0}
-
-abbrev pub StopIsCaused : {K L : Type 0} → (K → ℕ) → (L → ℕ) → K → K → Option L → Option L → Stop →
-    Type 0
-StopIsCaused faults log_faults out_old out_new old new (stop.Read j) = Unit {0}
-StopIsCaused faults log_faults out_old out_new old new (stop.Broken f) =
-    IsCaused faults log_faults out_old out_new old new f
-StopIsCaused faults log_faults out_old out_new old new (stop.Unwritten f) =
-    IsCaused faults log_faults out_old out_new old new f
-
--- writing what waits failed
-abbrev pub IsUnwritten : Stop → Type 0
-IsUnwritten (stop.Read j) = ⊥
-IsUnwritten (stop.Broken f) = ⊥
-IsUnwritten (stop.Unwritten f) = Unit {0}
-
--- the same of how it ended
-abbrev pub EndIsCaused : {K L : Type 0} → (K → ℕ) → (L → ℕ) → K → K → Option L → Option L → Ending →
-    Type 0
-EndIsCaused faults log_faults out_old out_new old new (Verdict v) = Unit {0}
-EndIsCaused faults log_faults out_old out_new old new (Read j) = Unit {0}
-EndIsCaused faults log_faults out_old out_new old new Write = Rose (faults out_old) (faults out_new)
-EndIsCaused faults log_faults out_old out_new old new LogWrite = LogFails log_faults old new
-EndIsCaused faults log_faults out_old out_new old new Memory = Unit {0}
 
 -- the ending that a fault comes to
 abbrev pub ending_of : RunFault → Ending
@@ -160,6 +128,12 @@ module _ {L : Type 0} (written : L → Option (List ℕ)) where
       → IsTold L written text head first old a records lines
       → IsPartly L written text head first new records lines
 
+  -- what was told is told still, and all of it was written, if it was to be
+  pub record IsToldStill (write : Bool) (old : Given L) (a : Waiting) (new : Given L) (b : Waiting)
+      : Type 0 where
+    pub still : StillTold old a new b
+    pub all : IsTrue write → WritesAll written old a new b
+
   -- a turn or a wait stopped: what was told is told still where memory ran out, and a front of
   -- it was written where writing failed
   abbrev pub StopsTurning : Given L → Waiting → Given L → Waiting → Stop → Type 0
@@ -239,3 +213,10 @@ CutsAt old new =
 -- what was recorded of injectors stays
 abbrev pub KeepsItems : List Record → List Record → Type 0
 KeepsItems old new = (k : ℕ) → items_by k new ≡ items_by k old
+
+-- the same run at the same moment, but for the lines that were taken of it
+pub record KeepsRun (old new : Core) : Type 0 where
+  pub records : new.arbiter.records ≡ old.arbiter.records
+  pub phase : new.arbiter.phase ≡ old.arbiter.phase
+  pub program : KeepsProgram old.arbiter new.arbiter
+  pub inside : new.out ≡ old.out

@@ -2,25 +2,36 @@ use Rattle.std.proofs.Common.{◌≡◌, ◌∙◌, false, sym, ap, subst}
 use Rattle.bp_log.specs.Records.{is_complete}
 use Rattle.bp_floor.specs.Floors.{is_idle}
 use Rattle.bp_arbiter.specs.Arbiters.{PlainArbiter, is_over}
-use Rattle.bp_told.specs.Told.{given}
+use Rattle.bp_session.specs.inner.Outlets.{given_to}
 use Rattle.bp_session.specs.declared.report.Ending.{Ending}
 use Rattle.bp_session.specs.inner.Serving.{IsEnded}
+use Rattle.bp_session.proofs.Causes.{writes_on, ends_at}
 use Rattle.bp_session.proofs.Ends.{all_written, front_of_all, fault_ended}
 use Rattle.bp_session.proofs.lent.write_read.Goals as goal
 
 pub returns-in-Ok-flush-clause-ends : goal.returns-in-Ok-flush-clause-ends
 returns-in-Ok-flush-clause-ends g c l o head first s =
     let told = c.in-Ok.ensures.all (ap is_idle c.requires.rest) l o head first s in
-    let mid = given g.K.Sink.written c.tell.new.out c.tell.new.log in
-    let new = given g.K.Sink.written c.flush.new.out c.flush.new.log in
+    let mid = given_to g.K.Sink c.tell.new.outlets in
+    let new = given_to g.K.Sink c.flush.new.self in
     let open_still : is_complete c.tell.new.core.arbiter.records ≡ false =
-    ap is_complete c.tell.ensures.records ∙ ap (λ (a : PlainArbiter). is_complete a.records) (sym c.arbiter.ensures) ∙ c.keeps.ensures.complete ∙ ap (λ (a : PlainArbiter). is_over a.phase) c.arbiter.ensures ∙ ap is_over c.requires.rest in
-    (open_still, all_written g.L.Sink.written l o head first c.tell.new.core mid new c.tell.new.telling c.flush.new.self c.in-Ok-flush.ensures.all told)
+    ap is_complete c.tell.ensures.run.records ∙ ap (λ (a : PlainArbiter). is_complete a.records) (sym c.arbiter.ensures) ∙ c.keeps.ensures.complete ∙ ap (λ (a : PlainArbiter). is_over a.phase) c.arbiter.ensures ∙ ap is_over c.requires.rest in
+    (open_still, all_written g.L.Sink.written l o head first c.tell.new.core mid new c.tell.new.telling c.flush.new.telling c.in-Ok-flush.ensures.all told)
 
 pub returns-in-Err-flush-clause-ends : goal.returns-in-Err-flush-clause-ends
 returns-in-Err-flush-clause-ends g c l o head first s =
     let told = c.in-Ok.ensures.all (ap is_idle c.requires.rest) l o head first s in
-    let mid = given g.K.Sink.written c.tell.new.out c.tell.new.log in
-    let new = given g.K.Sink.written c.flush.new.out c.flush.new.log in
+    let mid = given_to g.K.Sink c.tell.new.outlets in
+    let new = given_to g.K.Sink c.flush.new.self in
     subst (λ (e : Ending). IsEnded g.L.Sink.written l o head first c.tell.new.core new e) (sym c.ending_of.ensures)
     (fault_ended g.L.Sink.written l o head first c.tell.new.core new c.in-Err-flush.fault (front_of_all g.L.Sink.written l o head first c.tell.new.core mid new c.tell.new.telling c.flush.ensures.part told))
+
+pub returns-in-Err-clause-writes : goal.returns-in-Err-clause-writes
+returns-in-Err-clause-writes g c = c.write_front.ensures.writes _ c.in-Err.ensures.writes
+
+pub returns-in-Ok-flush-clause-writes : goal.returns-in-Ok-flush-clause-writes
+returns-in-Ok-flush-clause-writes g c = writes_on c.in-Ok.ensures.writes c.in-Ok-flush.ensures.writes
+
+pub returns-in-Err-flush-clause-writes : goal.returns-in-Err-flush-clause-writes
+returns-in-Err-flush-clause-writes g c =
+    ends_at c.ending_of.result c.in-Err-flush.fault c.ending_of.ensures (writes_on c.in-Ok.ensures.writes c.in-Err-flush.ensures.writes)

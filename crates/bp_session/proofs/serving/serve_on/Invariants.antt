@@ -1,17 +1,13 @@
-use Rattle.std.proofs.Common.{◌≡◌, ◌≤◌, false}
-use Rattle.bp_hear.specs.Hearings.{AreHeard}
-use Rattle.bp_scope.specs.Readings.{Pairs, GoesOnAs}
-use Rattle.bp_told.specs.Logging.{LogStays}
-use Rattle.bp_told.specs.Told.{given}
+use Rattle.std.proofs.Common.{◌≡◌, false, None}
+use Rattle.bp_session.specs.inner.Hearing.{HearOn}
+use Rattle.bp_session.specs.inner.Outlets.{given_to, WritesTo}
 use Rattle.bp_session.specs.inner.Serving.{ServesOn}
 use Rattle.bp_session.proofs.serving.serve_on.Given as goal
 
 abbrev pub invariant-loop : goal.invariant-loop
 invariant-loop g l = record {
-  serves : ServesOn g.L.Sink.written l.fn.core (given g.K.Sink.written l.fn.out l.fn.log) l.fn.telling l.core (given g.K.Sink.written l.out l.log) l.telling;
+  serves : ServesOn g.L.Sink.written l.fn.core (given_to g.K.Sink l.fn.outlets) l.fn.telling l.core (given_to g.K.Sink l.outlets) l.telling;
   inside : l.core.out ≡ false;
-  heard : AreHeard (λ r. r.hearing) l.core.arbiter.records l.readings.items;
-  goes_on : Pairs (GoesOnAs g.S.Source.left g.S.Source.faults) l.fn.readings.items l.readings.items;
-  counts : g.K.Sink.faults l.fn.out ≤ g.K.Sink.faults l.out;
-  stays : LogStays g.L.Sink.made_as g.L.Sink.faults l.fn.log l.log;
+  hears : HearOn g.S.Source.left g.S.Source.faults l.core.arbiter.records l.fn.readings.items l.readings.items;
+  writes : WritesTo g.K.Sink g.L.Sink l.fn.outlets l.outlets None;
 }

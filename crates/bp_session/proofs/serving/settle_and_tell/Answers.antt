@@ -3,76 +3,73 @@ use Rattle.bp_log.specs.declared.record.Record.{Record}
 use Rattle.bp_floor.specs.declared.phase.Phase.{Phase}
 use Rattle.bp_floor.specs.Floors.{is_idle}
 use Rattle.bp_steps.specs.Merging.{items_by}
-use Rattle.bp_told.specs.Told.{given}
+use Rattle.bp_session.specs.inner.Outlets.{given_to}
 use Rattle.bp_told.specs.declared.fault.RunFault.TheVariants.{Memory}
-use Rattle.bp_told.proofs.Logging.{log_same}
 use Rattle.bp_turns.specs.Settled.{IsSettled}
 use Rattle.bp_turns.proofs.Settled.{ok_map}
-use Rattle.bp_session.specs.inner.Serving.{ServesOn, TellsAll, BreaksServing, IsCaused}
+use Rattle.bp_session.specs.inner.Serving.{ServesOn, TellsAll, BreaksServing}
+use Rattle.bp_session.proofs.Causes.{writes_none, writes_lack, breaks_at}
 use Rattle.bp_session.proofs.Served.{ready_somewhere, ready_on, settle_serves, settle_breaks}
 use Rattle.bp_session.proofs.Picked.{settle_items, cut_items}
 use Rattle.bp_session.proofs.Rounds.{from_err, on_ok, on_err, idle_of, serves_both, breaks_then, tells_then}
 use Rattle.bp_session.proofs.serving.settle_and_tell.Goals as goal
 
 pub settle_core-requires-clause-somewhere : goal.settle_core-requires-clause-somewhere
-settle_core-requires-clause-somewhere g c = ready_somewhere g.L.Sink.written c.args.core.now (given g.K.Sink.written c.args.out.now c.args.log.now) c.args.telling.now c.requires.ready
+settle_core-requires-clause-somewhere g c = ready_somewhere g.L.Sink.written c.args.core.now (given_to g.K.Sink c.args.outlets.now) c.args.telling.now c.requires.ready
 
 pub returns-in_err-settle_core-clause-breaks : goal.returns-in_err-settle_core-clause-breaks
 returns-in_err-settle_core-clause-breaks g c =
-    let now = given g.K.Sink.written c.args.out.now c.args.log.now in
+    let now = given_to g.K.Sink c.args.outlets.now in
     from_err c.from_residual.result Memory (BreaksServing g.L.Sink.written c.args.core.now now c.args.telling.now c.settle_core.new.core now c.args.telling.now) c.from_residual.ensures.1
     (settle_breaks g.L.Sink.written c.args.core.now c.settle_core.new.core now c.args.telling.now Memory c.settle_core.ensures.kept c.in_err-settle_core.ensures.cut)
 
 pub returns-in_err-settle_core-clause-items : goal.returns-in_err-settle_core-clause-items
 returns-in_err-settle_core-clause-items g c =
-    cut_items c.args.core.now c.settle_core.new.core (ready_somewhere g.L.Sink.written c.args.core.now (given g.K.Sink.written c.args.out.now c.args.log.now) c.args.telling.now c.requires.ready) c.in_err-settle_core.ensures.cut
+    cut_items c.args.core.now c.settle_core.new.core (ready_somewhere g.L.Sink.written c.args.core.now (given_to g.K.Sink c.args.outlets.now) c.args.telling.now c.requires.ready) c.in_err-settle_core.ensures.cut
 
-pub returns-in_err-settle_core-clause-cause : goal.returns-in_err-settle_core-clause-cause
-returns-in_err-settle_core-clause-cause g c =
-    from_err c.from_residual.result Memory (IsCaused g.K.Sink.faults g.L.Sink.faults c.args.out.now c.args.out.now c.args.log.now c.args.log.now) c.from_residual.ensures.1 tt
-
-pub returns-in_err-settle_core-clause-stays : goal.returns-in_err-settle_core-clause-stays
-returns-in_err-settle_core-clause-stays g c = log_same g.L.Sink.made_as g.L.Sink.faults c.args.log.now
+pub returns-in_err-settle_core-clause-writes : goal.returns-in_err-settle_core-clause-writes
+returns-in_err-settle_core-clause-writes g c =
+    breaks_at c.from_residual.result Memory c.from_residual.ensures.1 (writes_lack (writes_none c.args.outlets.now))
 
 pub tell-requires : goal.tell-requires
 tell-requires g c =
-    let now = given g.K.Sink.written c.args.out.now c.args.log.now in
+    let now = given_to g.K.Sink c.args.outlets.now in
     record {
       ready = ready_on (settle_serves g.L.Sink.written c.args.core.now c.settle_core.new.core now c.args.telling.now c.settle_core.ensures.kept c.in_ok-settle_core.ensures.settles) c.requires.ready;
     }
 
 pub returns-clause-serves : goal.returns-clause-serves
 returns-clause-serves g c =
-    let now = given g.K.Sink.written c.args.out.now c.args.log.now in
-    let then = given g.K.Sink.written c.tell.new.out c.tell.new.log in
+    let now = given_to g.K.Sink c.args.outlets.now in
+    let then = given_to g.K.Sink c.tell.new.outlets in
     ok_map c.tell.result (ServesOn g.L.Sink.written c.settle_core.new.core now c.args.telling.now c.tell.new.core then c.tell.new.telling)
     (ServesOn g.L.Sink.written c.args.core.now now c.args.telling.now c.tell.new.core then c.tell.new.telling)
     (λ h. serves_both (settle_serves g.L.Sink.written c.args.core.now c.settle_core.new.core now c.args.telling.now c.settle_core.ensures.kept c.in_ok-settle_core.ensures.settles) h) c.tell.ensures.serves
 
 pub returns-clause-tells : goal.returns-clause-tells
 returns-clause-tells g c =
-    let now = given g.K.Sink.written c.args.out.now c.args.log.now in
-    let then = given g.K.Sink.written c.tell.new.out c.tell.new.log in
+    let now = given_to g.K.Sink c.args.outlets.now in
+    let then = given_to g.K.Sink c.tell.new.outlets in
     ok_map c.tell.result (is_idle c.settle_core.new.core.arbiter.phase ≡ true → TellsAll g.L.Sink.written c.settle_core.new.core now c.args.telling.now c.tell.new.core then c.tell.new.telling)
     (TellsAll g.L.Sink.written c.args.core.now now c.args.telling.now c.tell.new.core then c.tell.new.telling)
     (λ h. tells_then (settle_serves g.L.Sink.written c.args.core.now c.settle_core.new.core now c.args.telling.now c.settle_core.ensures.kept c.in_ok-settle_core.ensures.settles)
     (h (idle_of c.settle_core.new.core.arbiter.phase c.in_ok-settle_core.ensures.settled))) c.tell.ensures.all
 
 pub returns-clause-settled : goal.returns-clause-settled
-returns-clause-settled g c = on_ok c.tell.result (IsSettled c.tell.new.core.arbiter.phase) (subst (λ (f : Phase). IsSettled f) (sym c.tell.ensures.phase) c.in_ok-settle_core.ensures.settled)
+returns-clause-settled g c = on_ok c.tell.result (IsSettled c.tell.new.core.arbiter.phase) (subst (λ (f : Phase). IsSettled f) (sym c.tell.ensures.run.phase) c.in_ok-settle_core.ensures.settled)
 
 pub returns-clause-breaks : goal.returns-clause-breaks
 returns-clause-breaks g c =
-    let now = given g.K.Sink.written c.args.out.now c.args.log.now in
-    let then = given g.K.Sink.written c.tell.new.out c.tell.new.log in
+    let now = given_to g.K.Sink c.args.outlets.now in
+    let then = given_to g.K.Sink c.tell.new.outlets in
     on_err c.tell.result (BreaksServing g.L.Sink.written c.settle_core.new.core now c.args.telling.now c.tell.new.core then c.tell.new.telling)
     (BreaksServing g.L.Sink.written c.args.core.now now c.args.telling.now c.tell.new.core then c.tell.new.telling)
     (λ e h. breaks_then (settle_serves g.L.Sink.written c.args.core.now c.settle_core.new.core now c.args.telling.now c.settle_core.ensures.kept c.in_ok-settle_core.ensures.settles) h) c.tell.ensures.breaks
 
 pub returns-clause-items : goal.returns-clause-items
 returns-clause-items g c = λ k.
-    ap (λ (rs : List Record). items_by k rs) c.tell.ensures.records
-    ∙ settle_items c.args.core.now c.settle_core.new.core (ready_somewhere g.L.Sink.written c.args.core.now (given g.K.Sink.written c.args.out.now c.args.log.now) c.args.telling.now c.requires.ready) c.in_ok-settle_core.ensures.settles k
+    ap (λ (rs : List Record). items_by k rs) c.tell.ensures.run.records
+    ∙ settle_items c.args.core.now c.settle_core.new.core (ready_somewhere g.L.Sink.written c.args.core.now (given_to g.K.Sink c.args.outlets.now) c.args.telling.now c.requires.ready) c.in_ok-settle_core.ensures.settles k
 
 pub returns-clause-inside : goal.returns-clause-inside
-returns-clause-inside g c = on_ok c.tell.result _ (c.tell.ensures.inside ∙ c.in_ok-settle_core.ensures.inside)
+returns-clause-inside g c = on_ok c.tell.result _ (c.tell.ensures.run.inside ∙ c.in_ok-settle_core.ensures.inside)

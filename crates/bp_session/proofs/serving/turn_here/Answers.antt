@@ -1,20 +1,20 @@
-use Rattle.std.proofs.Common.{◌≡◌, false, refl, rules}
+use Rattle.std.proofs.Common.{◌≡◌, false, true, refl, rules}
 use Rattle.std.specs.List.{list_any}
-use Rattle.bp_told.specs.Told.{given}
+use Rattle.bp_session.specs.inner.Outlets.{given_to}
 use Rattle.bp_told.specs.declared.fault.RunFault.TheVariants.{Memory}
-use Rattle.bp_told.proofs.Logging.{log_same}
 use Rattle.bp_session.specs.declared.stop.Stop.TheVariants as stop
-use Rattle.bp_session.specs.inner.Serving.{StopsTurning, StopIsCaused}
+use Rattle.bp_session.specs.inner.Serving.{StopsTurning}
 use Rattle.bp_session.specs.inner.Turning.{turns_here}
 use Rattle.bp_session.proofs.Hears.{go_none}
 use Rattle.bp_session.proofs.Turns.{none_turn, as_heard_none}
 use Rattle.bp_session.proofs.Tells.{write_still}
-use Rattle.bp_session.proofs.Rounds.{from_err, still_none}
+use Rattle.bp_session.proofs.Causes.{writes_none, writes_lack, stops_at}
+use Rattle.bp_session.proofs.Rounds.{from_err, told_none, told_all}
 use Rattle.bp_session.proofs.serving.turn_here.Goals as goal
 
-pub returns-then-not-some_turn_here-clause-still : goal.returns-then-not-some_turn_here-clause-still
-returns-then-not-some_turn_here-clause-still g c =
-    still_none g.L.Sink.written (given g.K.Sink.written c.args.out.now c.args.log.now) c.args.telling.now
+pub returns-then-not-some_turn_here-clause-told : goal.returns-then-not-some_turn_here-clause-told
+returns-then-not-some_turn_here-clause-told g c =
+    told_none g.L.Sink.written (given_to g.K.Sink c.args.outlets.now) c.args.telling.now false refl
 
 pub returns-then-not-some_turn_here-clause-turns : goal.returns-then-not-some_turn_here-clause-turns
 returns-then-not-some_turn_here-clause-turns g c =
@@ -29,17 +29,16 @@ pub returns-then-not-some_turn_here-clause-hearing : goal.returns-then-not-some_
 returns-then-not-some_turn_here-clause-hearing g c =
     as_heard_none c.args.readings.now.items
 
-pub returns-then-not-some_turn_here-clause-stays : goal.returns-then-not-some_turn_here-clause-stays
-returns-then-not-some_turn_here-clause-stays g c =
-    log_same g.L.Sink.made_as g.L.Sink.faults c.args.log.now
+pub returns-then-not-some_turn_here-clause-writes : goal.returns-then-not-some_turn_here-clause-writes
+returns-then-not-some_turn_here-clause-writes g c = writes_none c.args.outlets.now
 
 pub returns-in_err-write_and_show-clause-stops : goal.returns-in_err-write_and_show-clause-stops
 returns-in_err-write_and_show-clause-stops g c =
-    from_err c.from_residual.result _ (StopsTurning g.L.Sink.written (given g.K.Sink.written c.args.out.now c.args.log.now) c.args.telling.now (given g.K.Sink.written c.write_and_show.new.out c.write_and_show.new.log) c.write_and_show.new.telling) c.from_residual.ensures.1 c.in_err-write_and_show.ensures.stops
+    from_err c.from_residual.result _ (StopsTurning g.L.Sink.written (given_to g.K.Sink c.args.outlets.now) c.args.telling.now (given_to g.K.Sink c.write_and_show.new.outlets) c.write_and_show.new.telling) c.from_residual.ensures.1 c.in_err-write_and_show.ensures.stops
 
-pub returns-in_err-write_and_show-clause-cause : goal.returns-in_err-write_and_show-clause-cause
-returns-in_err-write_and_show-clause-cause g c =
-    from_err c.from_residual.result _ (StopIsCaused g.K.Sink.faults g.L.Sink.faults c.args.out.now c.write_and_show.new.out c.args.log.now c.write_and_show.new.log) c.from_residual.ensures.1 c.in_err-write_and_show.ensures.cause
+pub returns-in_err-write_and_show-clause-writes : goal.returns-in_err-write_and_show-clause-writes
+returns-in_err-write_and_show-clause-writes g c =
+    stops_at c.from_residual.result _ c.from_residual.ensures.1 c.in_err-write_and_show.ensures.writes
 
 pub returns-in_err-write_and_show-clause-goes_on : goal.returns-in_err-write_and_show-clause-goes_on
 returns-in_err-write_and_show-clause-goes_on g c =
@@ -51,12 +50,15 @@ returns-in_err-write_and_show-clause-hearing g c =
 
 pub returns-in_err-turn_all_here-clause-stops : goal.returns-in_err-turn_all_here-clause-stops
 returns-in_err-turn_all_here-clause-stops g c =
-    from_err c.from_residual-in_err-turn_all_here.result (stop.Broken Memory) (StopsTurning g.L.Sink.written (given g.K.Sink.written c.args.out.now c.args.log.now) c.args.telling.now (given g.K.Sink.written c.write_and_show.new.out c.write_and_show.new.log) c.write_and_show.new.telling) c.from_residual-in_err-turn_all_here.ensures.1 (refl, write_still g.L.Sink.written (given g.K.Sink.written c.args.out.now c.args.log.now) (given g.K.Sink.written c.write_and_show.new.out c.write_and_show.new.log) c.args.telling.now c.write_and_show.new.telling c.in_ok-write_and_show.ensures.all)
+    from_err c.from_residual-in_err-turn_all_here.result (stop.Broken Memory) (StopsTurning g.L.Sink.written (given_to g.K.Sink c.args.outlets.now) c.args.telling.now (given_to g.K.Sink c.write_and_show.new.outlets) c.write_and_show.new.telling) c.from_residual-in_err-turn_all_here.ensures.1 (refl, write_still g.L.Sink.written (given_to g.K.Sink c.args.outlets.now) (given_to g.K.Sink c.write_and_show.new.outlets) c.args.telling.now c.write_and_show.new.telling c.in_ok-write_and_show.ensures.all)
 
-pub returns-in_err-turn_all_here-clause-cause : goal.returns-in_err-turn_all_here-clause-cause
-returns-in_err-turn_all_here-clause-cause g c =
-    from_err c.from_residual-in_err-turn_all_here.result (stop.Broken Memory) (StopIsCaused g.K.Sink.faults g.L.Sink.faults c.args.out.now c.write_and_show.new.out c.args.log.now c.write_and_show.new.log) c.from_residual-in_err-turn_all_here.ensures.1 tt
+pub returns-in_err-turn_all_here-clause-writes : goal.returns-in_err-turn_all_here-clause-writes
+returns-in_err-turn_all_here-clause-writes g c =
+    stops_at c.from_residual-in_err-turn_all_here.result (stop.Broken Memory) c.from_residual-in_err-turn_all_here.ensures.1 (writes_lack c.in_ok-write_and_show.ensures.writes)
 
-pub returns-clause-still : goal.returns-clause-still
-returns-clause-still g c =
-    write_still g.L.Sink.written (given g.K.Sink.written c.args.out.now c.args.log.now) (given g.K.Sink.written c.write_and_show.new.out c.write_and_show.new.log) c.args.telling.now c.write_and_show.new.telling c.in_ok-write_and_show.ensures.all
+pub returns-clause-told : goal.returns-clause-told
+returns-clause-told g c =
+    told_all g.L.Sink.written (given_to g.K.Sink c.args.outlets.now) (given_to g.K.Sink c.write_and_show.new.outlets) c.args.telling.now c.write_and_show.new.telling true c.in_ok-write_and_show.ensures.all
+
+pub returns-clause-writes : goal.returns-clause-writes
+returns-clause-writes g c = c.in_ok-write_and_show.ensures.writes

@@ -1,28 +1,24 @@
-use Rattle.bp_told.specs.Told.{given, WritesAll}
-use Rattle.bp_told.proofs.Logging.{log_same}
+use Rattle.std.proofs.Common.{◌≡◌, false, rules}
+use Rattle.bp_told.specs.Told.{WritesAll}
 use Rattle.bp_turns.proofs.Settled.{ok_map}
-use Rattle.bp_session.specs.inner.Serving.{StillTold}
-use Rattle.bp_session.proofs.Tells.{write_still}
-use Rattle.bp_session.proofs.Rounds.{still_none, unwritten_all}
+use Rattle.bp_session.specs.inner.Outlets.{given_to}
+use Rattle.bp_session.specs.inner.Serving.{IsToldStill}
+use Rattle.bp_session.proofs.Causes.{writes_none}
+use Rattle.bp_session.proofs.Rounds.{told_none, told_all}
 use Rattle.bp_session.proofs.serving.write_where.Goals as goal
 
-pub returns-then-not-heard-clause-still : goal.returns-then-not-heard-clause-still
-returns-then-not-heard-clause-still g c =
-    still_none g.L.Sink.written (given g.K.Sink.written c.args.out.now c.args.log.now) c.args.telling.now
+pub returns-then-not-heard-clause-told : goal.returns-then-not-heard-clause-told
+returns-then-not-heard-clause-told g c =
+    let no : c.args.heard ≡ false = search rules in
+    told_none g.L.Sink.written (given_to g.K.Sink c.args.outlets.now) c.args.telling.now c.args.heard no
 
-pub returns-then-not-heard-clause-stays : goal.returns-then-not-heard-clause-stays
-returns-then-not-heard-clause-stays g c =
-    log_same g.L.Sink.made_as g.L.Sink.faults c.args.log.now
+pub returns-then-not-heard-clause-writes : goal.returns-then-not-heard-clause-writes
+returns-then-not-heard-clause-writes g c = writes_none c.args.outlets.now
 
-pub returns-clause-stops : goal.returns-clause-stops
-returns-clause-stops g c =
-    unwritten_all g.L.Sink.written (given g.K.Sink.written c.args.out.now c.args.log.now) (given g.K.Sink.written c.write.new.out c.write.new.log) c.args.telling.now c.write.new.telling c.write.result c.write.ensures.unwritten c.write.ensures.part
-
-pub returns-clause-still : goal.returns-clause-still
-returns-clause-still g c =
-    ok_map c.write.result (WritesAll g.L.Sink.written (given g.K.Sink.written c.args.out.now c.args.log.now) c.args.telling.now (given g.K.Sink.written c.write.new.out c.write.new.log) c.write.new.telling)
-    (StillTold g.L.Sink.written (given g.K.Sink.written c.args.out.now c.args.log.now) c.args.telling.now (given g.K.Sink.written c.write.new.out c.write.new.log) c.write.new.telling)
-    (write_still g.L.Sink.written (given g.K.Sink.written c.args.out.now c.args.log.now) (given g.K.Sink.written c.write.new.out c.write.new.log) c.args.telling.now c.write.new.telling) c.write.ensures.all
-
-pub returns-clause-all : goal.returns-clause-all
-returns-clause-all g c = ok_map c.write.result _ _ (λ h yes. h) c.write.ensures.all
+pub returns-clause-told : goal.returns-clause-told
+returns-clause-told g c =
+    let old = given_to g.K.Sink c.args.outlets.now in
+    let new = given_to g.K.Sink c.write.new.outlets in
+    ok_map c.write.result (WritesAll g.L.Sink.written old c.args.telling.now new c.write.new.telling)
+    (IsToldStill g.L.Sink.written c.args.heard old c.args.telling.now new c.write.new.telling)
+    (told_all g.L.Sink.written old new c.args.telling.now c.write.new.telling c.args.heard) c.write.ensures.all

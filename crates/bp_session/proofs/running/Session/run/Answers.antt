@@ -102,7 +102,7 @@ returns-clause-ends g c =
     let back = c.served.new.parts.back.items in
     subst (λ (rs : List Record). EndsAs g.L.Sink.written g.L.Sink.faults g.K.Sink.faults o.wait (text (code_of program o) o) (header_text Second h) c.args.out.now c.served.new.out first now g.S.Source.left g.S.Source.faults inputs back rs end)
     (sym c.into_records.ensures)
-    (ends_as _ _ _ _ _ _ _ g.L.Sink.faults g.K.Sink.faults c.args.out.now c.served.new.out g.S.Source.left g.S.Source.faults inputs back c.served.ensures.back c.requires end ended c.served.ensures.cause c.served.ensures.broke)
+    (ends_as _ _ _ _ _ _ _ g.L.Sink g.K.Sink c.args.out.now c.served.new.out g.S.Source.left g.S.Source.faults inputs back c.served.ensures.back c.requires end ended c.served.ensures.writes.cause c.served.ensures.broke)
 
 pub returns-clause-behind : goal.returns-clause-behind
 returns-clause-behind g c =
@@ -114,3 +114,9 @@ returns-clause-behind g c =
     let now = given g.K.Sink.written c.served.new.out c.served.new.log in
     subst (λ (rs : List Record). PrintsBehind g.L.Sink.written (text (code_of program o) o) (header_text Second h) rs first.printed now.printed first.log now.log) (sym c.into_records.ensures)
     (behind_ended _ _ _ _ _ _ _ _ ended)
+
+pub returns-clause-counts : goal.returns-clause-counts
+returns-clause-counts g c = c.served.ensures.writes.counts
+
+pub returns-clause-stays : goal.returns-clause-stays
+returns-clause-stays g c = c.served.ensures.writes.stays
