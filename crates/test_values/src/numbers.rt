@@ -41,10 +41,12 @@ floor / | 7 | 0 --> zero
 < | 2 | 1 --> false
 <= | 1 | 1 --> true
 <= | 2 | 1 --> false
+<= | 1 | 2 --> true
 > | 2 | 1 --> true
 > | 1 | 1 --> false
 >= | 1 | 1 --> true
 >= | 1 | 2 --> false
+>= | 2 | 1 --> true
 < | "a" | "b" --> type
 - | "7" | 1 --> type
 + | "a" | -12 --> "a-12"
