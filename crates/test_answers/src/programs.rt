@@ -76,7 +76,8 @@ bp.registerBThread(\"B\", () => { bp.sync({block: odd}); });
 pub const CRUISE: &str =
     "// cruise controller: modes off / standby / active, brake interrupts; sensor from environment
 const SPEED = bp.EventSet(\"speed\", e => e.name === \"speed\");
-const on = bp.Event(\"on\"); const off = bp.Event(\"off\"); const set = bp.Event(\"set\"); const resume = bp.Event(\"resume\"); const brake = bp.Event(\"brake\");
+const on = bp.Event(\"on\"); const off = bp.Event(\"off\"); const set = bp.Event(\"set\"); \
+    const resume = bp.Event(\"resume\"); const brake = bp.Event(\"brake\");
 const MODES = {OFF: \"off\", STANDBY: \"standby\", ACTIVE: \"active\"};
 
 bp.registerBThread(\"Mode\", function () {

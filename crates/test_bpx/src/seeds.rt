@@ -10,37 +10,43 @@ use std::thread::Threads;
 
 /// Between blank lines: a script in one line, and lines of words after `seeds script.js` with what is printed, ` | ` for each
 /// line end but the last.
-const SEEDS: &str = r#"
-bp.registerBThread("A", () => { bp.sync({request: bp.Event("a")}) })
+const SEEDS: &str = "
+bp.registerBThread(\"A\", () => { bp.sync({request: bp.Event(\"a\")}) })
 0 299 ==> 300 quiet, all ended, first seed 0
 7 7 ==> 1 quiet, all ended, first seed 7
 5 8 --strategy ordered --workers 1 --wait no ==> 4 quiet, all ended, first seed 5
 
-const a = bp.Event("a"); bp.registerBThread("A", () => { bp.sync({request: a}) }); bp.registerBThread("B", () => { bp.sync({block: a}) })
+const a = bp.Event(\"a\"); \
+    bp.registerBThread(\"A\", () => { bp.sync({request: a}) }); \
+    bp.registerBThread(\"B\", () => { bp.sync({block: a}) })
 0 99 ==> 100 quiet, some stand, first seed 0
 
-bp.registerBThread("A", () => { bp.sync({request: bp.Event("a")}) }); bp.registerBThread("B", () => { bp.sync({request: bp.Event("b")}) }); bp.registerBThread("First", () => { const e = bp.sync({waitFor: bp.all}); bp.ASSERT(e.name === "a", "b came first") })
-0 9 ==> 3 quiet, all ended, first seed 0 | 7 violated "First", first seed 1
-4 9 ==> 4 violated "First", first seed 4 | 2 quiet, all ended, first seed 5
-1 4 ==> 4 violated "First", first seed 1
-18446744073709551615 18446744073709551615 ==> 1 violated "First", first seed 18446744073709551615
+bp.registerBThread(\"A\", () => { bp.sync({request: bp.Event(\"a\")}) }); \
+    bp.registerBThread(\"B\", () => { bp.sync({request: bp.Event(\"b\")}) }); \
+    bp.registerBThread(\"First\", () => { const e = bp.sync({waitFor: bp.all}); bp.ASSERT(e.name === \"a\", \"b came first\") })
+0 9 ==> 3 quiet, all ended, first seed 0 | 7 violated \"First\", first seed 1
+4 9 ==> 4 violated \"First\", first seed 4 | 2 quiet, all ended, first seed 5
+1 4 ==> 4 violated \"First\", first seed 1
+18446744073709551615 18446744073709551615 ==> 1 violated \"First\", first seed 18446744073709551615
 
-const ax = bp.Event("ax"); const ay = bp.Event("ay"); const bx = bp.Event("bx"); const by = bp.Event("by"); bp.registerBThread("A", () => { bp.sync({request: ax}); bp.sync({request: ay, block: bx}) }); bp.registerBThread("B", () => { bp.sync({request: by}); bp.sync({request: bx, block: ay}) })
+const ax = bp.Event(\"ax\"); const ay = bp.Event(\"ay\"); const bx = bp.Event(\"bx\"); const by = bp.Event(\"by\"); \
+    bp.registerBThread(\"A\", () => { bp.sync({request: ax}); bp.sync({request: ay, block: bx}) }); \
+    bp.registerBThread(\"B\", () => { bp.sync({request: by}); bp.sync({request: bx, block: ay}) })
 0 9 ==> 7 quiet, some stand, first seed 0 | 3 quiet, all ended, first seed 1
 4 5 ==> 1 quiet, all ended, first seed 4 | 1 quiet, some stand, first seed 5
 
-bp.registerBThread("A", () => { while (true) bp.sync({request: bp.Event("a")}) })
+bp.registerBThread(\"A\", () => { while (true) bp.sync({request: bp.Event(\"a\")}) })
 3 5 --steps 5 ==> 3 limit steps, first seed 3
 
-bp.registerBThread("A", () => { let n = 0; while (true) n++ })
-0 1 --budget=100 ==> 2 spent "A", first seed 0
+bp.registerBThread(\"A\", () => { let n = 0; while (true) n++ })
+0 1 --budget=100 ==> 2 spent \"A\", first seed 0
 
-bp.registerBThread("A", () => { const half = 7 / 2 })
-0 1 ==> 2 fault "A" 1 fraction, first seed 0
+bp.registerBThread(\"A\", () => { const half = 7 / 2 })
+0 1 ==> 2 fault \"A\" 1 fraction, first seed 0
 
-bp.ASSERT(false, "no")
+bp.ASSERT(false, \"no\")
 1 2 ==> 2 violated top, first seed 1
-"#;
+";
 
 /// Whether of the script is said what stands in the row.
 fn holds<R: Threads + Sync>(rt: &R, alloc: Global, script: &str, row: &str) -> Result<bool, Fail> {

@@ -2,7 +2,7 @@
 use crate::lines::{Lines, agree};
 use std::test::Fail;
 
-const SETS: &str = r#"
+const SETS: &str = "
 bp.Event('x') --> yes no
 bp.Event('x', 1) --> no no
 bp.all --> yes yes
@@ -23,8 +23,9 @@ bp.Event('x').negate().negate() --> yes no
 bp.EventSet('p', e => e.name === 'y') --> no yes
 bp.EventSet('p', e => e.data === undefined) --> yes yes
 bp.EventSet('p', e => true).and(bp.EventSet('q', e => false)) --> no no
-bp.EventSet('p', e => { for (let i = 0; i < 9; i++) ; return false }).or(bp.EventSet('q', e => { for (let i = 0; i < 9; i++) ; return e.name === 'y' })) --> no yes
-"#;
+bp.EventSet('p', e => { for (let i = 0; i < 9; i++) ; return false })\
+    .or(bp.EventSet('q', e => { for (let i = 0; i < 9; i++) ; return e.name === 'y' })) --> no yes
+";
 
 /// The first fault is the answer, where no answer comes before it.
 const FAULTS: &str = r#"

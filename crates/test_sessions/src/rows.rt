@@ -6,7 +6,8 @@ use std::test::Fail;
 use std::thread::Threads;
 
 const BLOCKED: &str =
-    r#"bp.registerBThread("B", () => { bp.sync({waitFor: bp.Event("go"), block: bp.Event("x")}) }); bp.registerBThread("C", () => { bp.sync({waitFor: bp.Event("x")}); bp.log.info("got") })"#;
+    "bp.registerBThread(\"B\", () => { bp.sync({waitFor: bp.Event(\"go\"), block: bp.Event(\"x\")}) }); \
+     bp.registerBThread(\"C\", () => { bp.sync({waitFor: bp.Event(\"x\")}); bp.log.info(\"got\") })";
 
 const BLOCKED_LINES: &str = "[\"x\"]\n[\"go\"]\n";
 
