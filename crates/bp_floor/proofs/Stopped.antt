@@ -1,5 +1,5 @@
 -- At rest the job of a b-thread that has not ended tells where it stands.
-use Rattle.std.proofs.Common.{◌≡◌, ℕ, ◌<◌, Bool, false, List, [], map, refl, sym, ap, ◌∙◌, subst, Option, Some, None, slice_get, option_map, if◌then◌else◌}
+use Rattle.std.proofs.Common.{◌≡◌, ℕ, Bool, false, List, [], map, refl, sym, ap, subst, Option, Some, None, slice_get, option_map, if◌then◌else◌}
 use Rattle.js_data.proofs.Shared.{one_answer}
 use Rattle.js_value.specs.Value.{PlainSet}
 use Rattle.js_meaning.specs.Bodies.{evaluation}

@@ -1,6 +1,5 @@
 -- What is true of the texts of logs.
 use Rattle.std.specs.Prelude.{◌≡◌, ℕ, ◌<◌, ◌≤◌, ◌^◌, true, false, List, [], ◌∷◌, length, Ok, Option, Some, None}
-use Rattle.std.specs.Str.{is_utf8}
 use Rattle.js_data.specs.Event.{IsEvent}
 use Rattle.bp_log.specs.Options.{AreOptions}
 use Rattle.bp_log.specs.Header.{PlainHeader}

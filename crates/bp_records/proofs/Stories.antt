@@ -24,7 +24,7 @@ use Rattle.bp_run.specs.Bodies.{Code}
 use Rattle.bp_run.specs.Configuration.{Configuration}
 use Rattle.bp_run.specs.Settling.{queued, initial, opening}
 use Rattle.bp_run.specs.Choosing.{Choice, Touched}
-use Rattle.bp_run.specs.Story.{Next, next, move, may_come, has_room, is_over, read_out, first_bad, if_ended, after_record, story_from, without, stepped}
+use Rattle.bp_run.specs.Story.{next, move, may_come, has_room, is_over, read_out, first_bad, if_ended, after_record, story_from, without, stepped}
 use Rattle.bp_run.specs.Story.Next.{Selects}
 use Rattle.bp_run.proofs.Stories.{leads_if, selected_moves, ended_with, story_first, selects_steps, move_transitions}
 use Rattle.bp_run.proofs.Injectors.{below_any, length_below}

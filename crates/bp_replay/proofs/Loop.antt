@@ -10,7 +10,7 @@ use Rattle.bp_log.specs.declared.record.Record.TheVariants.{In, Bad, Eof, Sel, E
 use Rattle.bp_log.specs.declared.trace.Line.{Line}
 use Rattle.bp_log.specs.declared.trace.Line.TheVariants as trace
 use Rattle.bp_log.specs.declared.verdict.Verdict.{Verdict}
-use Rattle.bp_reading.specs.Reading.{Stage, BeginsWith, BreaksOff, found, finished, refused, next_at, first_stage, after}
+use Rattle.bp_reading.specs.Reading.{Stage, BeginsWith, BreaksOff, found, finished, next_at, first_stage, after}
 use Rattle.bp_reading.proofs.Fronts.{begins_on, begins_front, none_going, none_over}
 use Rattle.bp_reader.specs.Fed.{Between}
 use Rattle.bp_reader.specs.Reads.{IsStageAfter, Standing, MeansNext, Tells as ReaderTells}

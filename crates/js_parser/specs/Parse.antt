@@ -1,5 +1,5 @@
 -- What parsing answers.
-use Rattle.std.specs.Prelude.{ℕ, ◌-◌, ◌≡◌, false, List, [], Some, None, Result, Ok, Err}
+use Rattle.std.specs.Prelude.{◌-◌, ◌≡◌, false, List, [], Some, None, Result, Ok, Err}
 use Rattle.js_lexer.specs.declared.token.Token.{Token}
 use Rattle.js_tree.specs.declared.tree.Tree.{Tree}
 use Rattle.js_tree.specs.declared.limits.TheConstants.{MOST_NESTING}

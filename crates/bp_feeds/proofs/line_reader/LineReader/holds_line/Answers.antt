@@ -1,6 +1,5 @@
 use Rattle.std.proofs.Common.{◌≡◌, List, ◌++◌, ℕ, length, subst}
 use Rattle.bp_feeds.specs.Items.{has_break}
-use Rattle.bp_feeds.specs.Feeds.{held}
 use Rattle.std.specs.Prelude.{nat_lt}
 use Rattle.bp_feeds.proofs.Cuts.{breaks_at}
 use Rattle.bp_feeds.proofs.line_reader.LineReader.holds_line.Goals as goal

@@ -1,4 +1,4 @@
-use Rattle.std.proofs.Common.{◌≡◌, ◌∙◌, List, [], Some, sym, ap, slice_get, option_map}
+use Rattle.std.proofs.Common.{◌∙◌, List, Some, sym, ap, slice_get, option_map}
 use Rattle.js_meaning.specs.Bodies.{Origin}
 use Rattle.js_frames.specs.Places.{plain_ground}
 use Rattle.bp_run.specs.Settling.{Entry}
