@@ -49,7 +49,7 @@ impl Changes {
         self.numbers.as_slice()
     }
 
-    /// Notes the number. Its only error is out of memory, and then nothing changes.
+    /// Notes the number. Its only error is out of memory. What was noted stays noted.
     pub fn note(&mut self, number: u32) -> Result<(), Memory>
         ensures noted { OnOk result (is_in number self.new ≡ true) }
         ensures others { (n : ℕ) → is_in n self.old ≡ true → is_in n self.new ≡ true }

@@ -15,7 +15,6 @@ use Rattle.bp_told.specs.Told.{Given, Waiting, WritesAll, WritesPart}
 use Rattle.bp_told.specs.declared.fault.RunFault.{RunFault}
 use Rattle.bp_told.specs.declared.fault.RunFault.TheVariants.{Write, LogWrite, Memory}
 use Rattle.bp_told.proofs.Told.{told_broken, broken_part}
-use Rattle.bp_session.specs.declared.report.Ending.{Ending}
 use Rattle.bp_session.specs.declared.stop.Stop.{Stop}
 use Rattle.bp_session.specs.declared.stop.Stop.TheVariants as stop
 use Rattle.bp_session.specs.inner.Serving.{IsReady, IsServing, IsAllTold, IsBrokenOff, IsAllWritten, IsFrontWritten, IsServedTo, IsEnded, TellsAll, StopsServing, CanTellRest, ending_of, broke_at}

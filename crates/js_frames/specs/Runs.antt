@@ -19,17 +19,18 @@ use Rattle.js_frames.specs.Places.{Place, Beside, plain_effects, place_of, setti
 use Rattle.js_frames.specs.Frames.{plug, step_outcome}
 use Rattle.js_frames.specs.Fits.{StackFits, StepFits}
 
--- a machine of the program, or one that is lost for lack of memory
+-- what is pending is of the program
 abbrev pub PendingFits : PlainProgram → Pending → Type 0
 PendingFits program (Next step) = StepFits program step
 PendingFits program (Resumed event) = Unit {0}
 
+-- a machine of the program: its stack and what is pending are, if anything is pending
 unfoldable pub IsOfProgram : PlainProgram → Machine → Type 0
 IsOfProgram program m =
     (next : Pending) → m.pending ≡ Some next →
     StackFits program m.engine.stack.items × PendingFits program next
 
--- lost for lack of memory
+-- nothing is pending: it has been given nothing to do yet, or memory ran out
 unfoldable pub IsLost : Machine → Type 0
 IsLost m = m.pending ≡ None
 

@@ -89,7 +89,7 @@ impl Engine {
         }
     }
 
-    /// A member begins. Where it is one of an event's data, it is read there at once.
+    /// A member begins. One of an event's data may be read there at once.
     #[inline(never)]
     pub fn begin_member(
         &mut self,
