@@ -10,7 +10,7 @@ use Rattle.js_program.specs.declared.builtin.Builtin.TheVariants as form
 use Rattle.js_program.specs.declared.node.Variable.TheVariants.{Constant}
 use Rattle.js_program.specs.PlainProgram as p
 use Rattle.js_program.specs.PlainProgram.{PlainNode}
-use Rattle.js_meaning.specs.Meaning.{within, eval, turns_of}
+use Rattle.js_meaning.specs.Meaning.{within, eval, iterations_of}
 use Rattle.js_meaning.specs.Bodies.{evaluation, ground_of}
 use Rattle.js_meaning.proofs.Small.{one, whole, slot, constant, given, body, statements, program}
 use Rattle.bp_log.specs.Options.{default_options}
@@ -26,7 +26,7 @@ use Rattle.bp_code.proofs.Pieces.{counted_alone, registers, requests, waits, log
 -- ---- the empty program
 
 pub nothing_is_quiet : printed default_options [] [] [] ≡ Some (codes "verdict quiet 0\n")
-unfolding turn settle_in settle initial selectable choice reach step next after_record story_from story alone_from alone line_text lines_text text digits evaluation ground_of eval within turns_of
+unfolding turn settle_in settle initial selectable choice reach step next after_record story_from story alone_from alone line_text lines_text text digits evaluation ground_of eval within iterations_of
 nothing_is_quiet = refl
 
 -- ---- hot and cold water, three times each, in turns
@@ -40,7 +40,7 @@ pub hot_and_cold : printed default_options
     (statements 0 (16 ∷ 21 ∷ 26 ∷ []) ∷ statements 0 (31 ∷ 36 ∷ 41 ∷ []) ∷ statements 0 (58 ∷ []) ∷ [])
     (3 ∷ 7 ∷ 11 ∷ [])
     ≡ Some (codes "event [\"hot\"]\nevent [\"cold\"]\nevent [\"hot\"]\nevent [\"cold\"]\nevent [\"hot\"]\ndone \"Add hot\"\nevent [\"cold\"]\ndone \"Add cold\"\nverdict quiet 6\n")
-unfolding turn settle_in settle initial selectable choice reach step next after_record story_from story alone_from alone line_text lines_text text digits evaluation ground_of eval within turns_of
+unfolding turn settle_in settle initial selectable choice reach step next after_record story_from story alone_from alone line_text lines_text text digits evaluation ground_of eval within iterations_of
 hot_and_cold = refl
 
 -- ---- two b-threads request one event
@@ -49,7 +49,7 @@ pub both_advance : printed default_options
     (registers 0 (codes "A") 0 ++ registers 4 (codes "B") 1 ++ requests 8 (codes "e") ++ requests 13 (codes "e"))
     (statements 0 (12 ∷ []) ∷ statements 0 (17 ∷ []) ∷ []) (3 ∷ 7 ∷ [])
     ≡ Some (codes "event [\"e\"]\ndone \"A\"\ndone \"B\"\nverdict quiet 1\n")
-unfolding turn settle_in settle initial selectable choice reach step next after_record story_from story alone_from alone line_text lines_text text digits evaluation ground_of eval within turns_of
+unfolding turn settle_in settle initial selectable choice reach step next after_record story_from story alone_from alone line_text lines_text text digits evaluation ground_of eval within iterations_of
 both_advance = refl
 
 -- ---- an interrupt whose handler logs: bp.setInterruptHandler(e => { bp.log.info("stop " + e.name) })
@@ -62,7 +62,7 @@ pub handler_logs : printed default_options
     ++ one (p.text (codes "stop ")) ∷ slot 0 ∷ one (p.member 27 (codes "name")) ∷ one (p.binary op.Add 26 28) ∷ one (p.builtin form.LogInfo (29 ∷ [])) ∷ one (p.expression 30) ∷ [])
     (statements 0 (10 ∷ 17 ∷ 20 ∷ []) ∷ statements 0 (25 ∷ []) ∷ body 1 1 (p.statements (31 ∷ [])) ∷ []) (3 ∷ 7 ∷ [])
     ≡ Some (codes "event [\"e\"]\nlog \"A\" \"stop e\"\ninterrupted \"A\"\ndone \"B\"\nverdict quiet 1\n")
-unfolding turn settle_in settle initial selectable choice reach step next after_record story_from story alone_from alone line_text lines_text text digits evaluation ground_of eval within turns_of
+unfolding turn settle_in settle initial selectable choice reach step next after_record story_from story alone_from alone line_text lines_text text digits evaluation ground_of eval within iterations_of
 handler_logs = refl
 
 -- ---- registration in waves: A registers B and C after its event, and B registers D
@@ -74,7 +74,7 @@ pub wave_after_wave : printed default_options
     ++ logs 24 (codes "c") ++ logs 27 (codes "d"))
     (statements 0 (8 ∷ 12 ∷ 16 ∷ []) ∷ statements 0 (19 ∷ 23 ∷ []) ∷ statements 0 (26 ∷ []) ∷ statements 0 (29 ∷ []) ∷ []) (3 ∷ [])
     ≡ Some (codes "event [\"a\"]\ndone \"A\"\nlog \"B\" \"b\"\ndone \"B\"\nlog \"C\" \"c\"\ndone \"C\"\nlog \"D\" \"d\"\ndone \"D\"\nverdict quiet 1\n")
-unfolding turn settle_in settle initial selectable choice reach step next after_record story_from story alone_from alone line_text lines_text text digits evaluation ground_of eval within turns_of
+unfolding turn settle_in settle initial selectable choice reach step next after_record story_from story alone_from alone line_text lines_text text digits evaluation ground_of eval within iterations_of
 wave_after_wave = refl
 
 -- ---- strategy `ordered` takes the first request: bp.sync({request: [a, b, c]})
@@ -88,7 +88,7 @@ three_requests =
 
 pub ordered_takes_the_first : printed (record default_options { strategy = Ordered }) three_requests (statements 0 (13 ∷ []) ∷ []) (3 ∷ [])
     ≡ Some (codes "event [\"a\"]\ndone \"A\"\nverdict quiet 1\n")
-unfolding turn settle_in settle initial selectable choice reach step next after_record story_from story alone_from alone line_text lines_text text digits evaluation ground_of eval within turns_of
+unfolding turn settle_in settle initial selectable choice reach step next after_record story_from story alone_from alone line_text lines_text text digits evaluation ground_of eval within iterations_of
 ordered_takes_the_first = refl
 
 -- a program whose constants its b-threads read: const x = bp.Event("x");
@@ -100,7 +100,7 @@ pub constants_are_seen :
     ++ constant 0 ∷ one (p.fields (codes "request" ∷ []) (7 ∷ [])) ∷ one (p.builtin form.Sync (8 ∷ [])) ∷ one (p.expression 9) ∷ [])
     (statements 0 (10 ∷ []) ∷ []) (p.undeclared ∷ []) (statements 0 (2 ∷ 6 ∷ []))) default_options
     ≡ Some (codes "event [\"x\"]\ndone \"A\"\nverdict quiet 1\n")
-unfolding turn settle_in settle initial selectable choice reach step next after_record story_from story alone_from alone line_text lines_text text digits evaluation ground_of eval within turns_of
+unfolding turn settle_in settle initial selectable choice reach step next after_record story_from story alone_from alone line_text lines_text text digits evaluation ground_of eval within iterations_of
 constants_are_seen = refl
 
 -- and their predicates: const open = true; bp.registerBThread("A", () => { bp.sync({request: bp.Event("e")}) });
@@ -113,7 +113,7 @@ pub predicates_see_constants :
     ∷ one (p.builtin form.Sync (18 ∷ [])) ∷ one (p.expression 19) ∷ constant 0 ∷ [])
     (statements 0 (14 ∷ []) ∷ statements 0 (20 ∷ []) ∷ body 1 1 (p.one_value 21) ∷ []) (p.undeclared ∷ []) (statements 0 (1 ∷ 5 ∷ 9 ∷ []))) default_options
     ≡ Some (codes "event [\"e\"]\ndone \"A\"\ndone \"B\"\nverdict quiet 1\n")
-unfolding turn settle_in settle initial selectable choice reach step next after_record story_from story alone_from alone line_text lines_text text digits evaluation ground_of eval within turns_of
+unfolding turn settle_in settle initial selectable choice reach step next after_record story_from story alone_from alone line_text lines_text text digits evaluation ground_of eval within iterations_of
 predicates_see_constants = refl
 
 -- ---- captured values, and words drawn among two events: the words are 0, 1, 2 ..
@@ -133,7 +133,7 @@ pub large_two :
     (body 1 1 (p.one_value 17) ∷ record { parameters = 0; slots = 2; captures = 0 ∷ []; vars = []; content = p.statements (30 ∷ []); line = 1 } ∷ [])
     (p.undeclared ∷ []) (statements 1 (1 ∷ 16 ∷ []))) default_options
     ≡ Some (codes "event [\"e\",0]\nevent [\"e\",1]\nevent [\"e\",0]\nevent [\"e\",1]\nevent [\"e\",0]\nevent [\"e\",1]\nevent [\"e\",0]\ndone \"t0\"\nevent [\"e\",1]\ndone \"t1\"\nverdict quiet 8\n")
-unfolding turn settle_in settle initial selectable choice reach step next after_record story_from story alone_from alone line_text lines_text text digits evaluation ground_of eval within turns_of
+unfolding turn settle_in settle initial selectable choice reach step next after_record story_from story alone_from alone line_text lines_text text digits evaluation ground_of eval within iterations_of
 large_two = refl
 
 -- ---- a bare return: const f = () => { return
@@ -150,7 +150,7 @@ pub returns_nothing :
     (statements 0 (10 ∷ 12 ∷ []) ∷ body 1 1 (p.one_value 13) ∷ statements 0 (17 ∷ 20 ∷ []) ∷ [])
     (p.undeclared ∷ p.undeclared ∷ []) (statements 0 (1 ∷ 5 ∷ 9 ∷ []))) default_options
     ≡ Some (codes "log \"A\" \"undefined\"\nlog \"A\" \"2\"\ndone \"A\"\nverdict quiet 0\n")
-unfolding turn settle_in settle initial selectable choice reach step next after_record story_from story alone_from alone line_text lines_text text digits evaluation ground_of eval within turns_of
+unfolding turn settle_in settle initial selectable choice reach step next after_record story_from story alone_from alone line_text lines_text text digits evaluation ground_of eval within iterations_of
 returns_nothing = refl
 
 -- ---- with one step at most, each predicate and each body has the whole budget all the same
@@ -165,7 +165,7 @@ pub predicates_have_the_budget :
     ∷ one (p.builtin form.Sync (18 ∷ [])) ∷ one (p.expression 19) ∷ constant 0 ∷ one (p.binary op.Same 21 0) ∷ [])
     (statements 0 (14 ∷ []) ∷ statements 0 (20 ∷ []) ∷ body 1 1 (p.one_value 22) ∷ []) (p.undeclared ∷ []) (statements 0 (1 ∷ 5 ∷ 9 ∷ []))) (record default_options { steps = 1 })
     ≡ Some (codes "event [\"e\"]\ndone \"A\"\ndone \"B\"\nverdict quiet 1\n")
-unfolding turn settle_in settle initial selectable choice reach step next after_record story_from story alone_from alone line_text lines_text text digits evaluation ground_of eval within turns_of
+unfolding turn settle_in settle initial selectable choice reach step next after_record story_from story alone_from alone line_text lines_text text digits evaluation ground_of eval within iterations_of
 predicates_have_the_budget = refl
 
 -- a handler that is a constant: function stop(e) { bp.log.info("stop") }, and bp.setInterruptHandler(stop)
@@ -176,5 +176,5 @@ pub handler_is_a_constant :
     ++ waits 11 (codes "e") (codes "interrupt") (codes "e") ++ requests 18 (codes "e") ++ logs 23 (codes "stop"))
     (statements 0 (10 ∷ 17 ∷ []) ∷ statements 0 (22 ∷ []) ∷ body 1 1 (p.statements (25 ∷ [])) ∷ []) (p.of_function 2 ∷ []) (statements 0 (3 ∷ 7 ∷ []))) (record default_options { steps = 1 })
     ≡ Some (codes "event [\"e\"]\nlog \"A\" \"stop\"\ninterrupted \"A\"\ndone \"B\"\nverdict quiet 1\n")
-unfolding turn settle_in settle initial selectable choice reach step next after_record story_from story alone_from alone line_text lines_text text digits evaluation ground_of eval within turns_of
+unfolding turn settle_in settle initial selectable choice reach step next after_record story_from story alone_from alone line_text lines_text text digits evaluation ground_of eval within iterations_of
 handler_is_a_constant = refl

@@ -37,7 +37,7 @@ use Rattle.js_meaning.specs.Variables.{in_slot, held, set_slot, set_variable, un
 use Rattle.js_meaning.specs.Calls.{body_of, answer_of, after_call, applies, sequence, in_order, runs, enters, calls, for_each_from, for_each_call, calls_method}
 use Rattle.js_meaning.specs.Forms.{argument, does_to_run, registers_thread, asks, asserted, enqueues_event, sets_handler, log_text, logs, floors, takes_effect, applies_form}
 use Rattle.js_meaning.specs.Expressions.{unary_for, step_for, op_for, op_before, by_rule, writes, updates, does_update, assigns, combines}
-use Rattle.js_meaning.specs.Statements.{after_turn, without_value, declares, does_declaration, does_if_else, tests, perhaps, one_turn, turns, each, each_of}
+use Rattle.js_meaning.specs.Statements.{after_iteration, without_value, declares, does_declaration, does_if_else, tests, perhaps, one_iteration, iterations, each, each_of}
 use Rattle.js_meaning.specs.Meaning.{does, does_node}
 use Rattle.js_meaning.specs.Bodies.{Origin, the_top, function, runs_body}
 use Rattle.bp_records.proofs.Lists.{Each, each_append, each_get, each_set, each_take, each_drop, each_replicate, each_map, or_default}
@@ -62,18 +62,18 @@ bind_self (stopped x y line l) c h k = h
 bind : {f : State → Outcome} (c : PlainValue → State → Outcome) → Keeps f → ((x : PlainValue) → IsShort x → Keeps (c x)) → Keeps (λ s. f s >>= c)
 bind {f} c h k = record { at = λ s m. bind_self (f s) c (h.at s m) k }
 
-turn_self : (o : Outcome) (c : State → Outcome) → IsShortOutcome o → Keeps c → IsShortOutcome (after_turn o c)
-turn_self (went (normal x) s) c h k = k.at s h.1
-turn_self (went broke s) c h k = (tt, h.1)
-turn_self (went continued s) c h k = k.at s h.1
-turn_self (went (returned x) s) c h k = h
-turn_self (broken f line l) c h k = h
-turn_self (violated text l) c h k = h
-turn_self (spent l) c h k = h
-turn_self (stopped x y line l) c h k = h
+iteration_self : (o : Outcome) (c : State → Outcome) → IsShortOutcome o → Keeps c → IsShortOutcome (after_iteration o c)
+iteration_self (went (normal x) s) c h k = k.at s h.1
+iteration_self (went broke s) c h k = (tt, h.1)
+iteration_self (went continued s) c h k = k.at s h.1
+iteration_self (went (returned x) s) c h k = h
+iteration_self (broken f line l) c h k = h
+iteration_self (violated text l) c h k = h
+iteration_self (spent l) c h k = h
+iteration_self (stopped x y line l) c h k = h
 
-turn : {f c : State → Outcome} → Keeps f → Keeps c → Keeps (λ s. after_turn (f s) c)
-turn {f} {c} h k = record { at = λ s m. turn_self (f s) c (h.at s m) k }
+iteration : {f c : State → Outcome} → Keeps f → Keeps c → Keeps (λ s. after_iteration (f s) c)
+iteration {f} {c} h k = record { at = λ s m. iteration_self (f s) c (h.at s m) k }
 
 answer_short : (c : Completion) → IsShortCompletion c → IsShort (answer_of c)
 answer_short (normal x) h = tt
@@ -339,7 +339,7 @@ module _ (g : Setting) (ground : AreShortSlots g.base.constants) (ev : ℕ → S
 
   each_keeps : (k body : ℕ) (xs : List PlainValue) → Each IsShort xs → Keeps (each ev k body xs)
   each_keeps k body [] m = leaves_keeps
-  each_keeps k body (y ∷ ys) m = turn (set_keeps {f = ev body} k (Some y) m.0 (h body)) (each_keeps k body ys m.1)
+  each_keeps k body (y ∷ ys) m = iteration (set_keeps {f = ev body} k (Some y) m.0 (h body)) (each_keeps k body ys m.1)
 
   each_of_keeps : (line k body : ℕ) (y : PlainValue) → IsShort y → Keeps (each_of ev line k body y)
   each_of_keeps line k body (v.list xs) m = each_keeps k body (values_in xs) (values_short xs m)
@@ -353,13 +353,13 @@ module _ (g : Setting) (ground : AreShortSlots g.base.constants) (ev : ℕ → S
   perhaps_keeps None = leaves_keeps
   perhaps_keeps (Some n) = h n
 
-  one_turn_keeps : (test : Option ℕ) (body : ℕ) (next : Option ℕ) (again : State → Outcome) → Keeps again → Keeps (one_turn ev test body next again)
-  one_turn_keeps test body next again a =
-      bind _ (tests_keeps test) (λ x _. either (is_truthy x) (turn (h body) (bind _ (perhaps_keeps next) (λ _ _. a))) leaves_keeps)
+  one_iteration_keeps : (test : Option ℕ) (body : ℕ) (next : Option ℕ) (again : State → Outcome) → Keeps again → Keeps (one_iteration ev test body next again)
+  one_iteration_keeps test body next again a =
+      bind _ (tests_keeps test) (λ x _. either (is_truthy x) (iteration (h body) (bind _ (perhaps_keeps next) (λ _ _. a))) leaves_keeps)
 
-  pub turns_keeps : (n : ℕ) (test : Option ℕ) (body : ℕ) (next : Option ℕ) → Keeps (turns ev n test body next)
-  turns_keeps zero test body next = spends_keeps
-  turns_keeps (suc n) test body next = one_turn_keeps test body next (turns ev n test body next) (turns_keeps n test body next)
+  pub iterations_keeps : (n : ℕ) (test : Option ℕ) (body : ℕ) (next : Option ℕ) → Keeps (iterations ev n test body next)
+  iterations_keeps zero test body next = spends_keeps
+  iterations_keeps (suc n) test body next = one_iteration_keeps test body next (iterations ev n test body next) (iterations_keeps n test body next)
 
   module _ (repeat : Option ℕ → ℕ → Option ℕ → State → Outcome) (r : (test : Option ℕ) (body : ℕ) (next : Option ℕ) → Keeps (repeat test body next)) where
     does_keeps : (line : ℕ) (node : PlainNodeForm) → Keeps (does g ev repeat line node)

@@ -12,7 +12,7 @@ use Rattle.js_meaning.specs.State as js
 use Rattle.js_meaning.specs.State.{Ground, Setting, State, went, broken, violated, spent, stopped, left_by, effects_of}
 use Rattle.js_meaning.specs.Variables.{constant_start}
 use Rattle.js_meaning.specs.Meaning.{does_node, begins_with, within, allowed, eval}
-use Rattle.js_meaning.specs.Statements.{turns}
+use Rattle.js_meaning.specs.Statements.{iterations}
 use Rattle.js_meaning.specs.Bodies.{Origin, the_top, function, bare, setting_of, own_constants, start_of, evaluation, constants_left, ground_of}
 use Rattle.bp_log.specs.Options.{PlainOptions, AreOptions}
 use Rattle.bp_log.specs.Records.{is_complete, Complete}
@@ -30,7 +30,7 @@ use Rattle.bp_records.specs.Laws.{StoriesStand}
 use Rattle.bp_records.proofs.Lists.{Each, each_drop, or_default}
 use Rattle.bp_records.proofs.Short.{IsLight, IsShort}
 use Rattle.bp_records.proofs.Outcomes.{AreShortSlots, IsShortEffect, AreShortEffects, IsShortState, IsShortOutcome, IsShortOrigin}
-use Rattle.bp_records.proofs.Evaluation.{Keeps, spends_keeps, turns_keeps, node_keeps, body_keeps}
+use Rattle.bp_records.proofs.Evaluation.{Keeps, spends_keeps, iterations_keeps, node_keeps, body_keeps}
 use Rattle.bp_records.proofs.Runs.{ShortEffect, ShortOutcome, ShortPart, ShortCode}
 use Rattle.bp_records.proofs.Stories.{story_stands, begins}
 
@@ -45,8 +45,8 @@ module _ (g : Setting) (ground : AreShortSlots g.base.constants) where
   unfolding within
   within_keeps zero n = spends_keeps
   within_keeps (suc k) n = record {
-    at = λ s m. begins_keeps (does_node g (within g k) (turns (within g k) k) (slice_get g.base.program.nodes n))
-        (node_keeps g ground (within g k) (within_keeps k) (turns (within g k) k) (turns_keeps g ground (within g k) (within_keeps k) k) (slice_get g.base.program.nodes n)) s.fuel s m;
+    at = λ s m. begins_keeps (does_node g (within g k) (iterations (within g k) k) (slice_get g.base.program.nodes n))
+        (node_keeps g ground (within g k) (within_keeps k) (iterations (within g k) k) (iterations_keeps g ground (within g k) (within_keeps k) k) (slice_get g.base.program.nodes n)) s.fuel s m;
   }
 
   eval_keeps : (n : ℕ) → Keeps (eval g n)

@@ -9,10 +9,10 @@ use Rattle.js_ops.specs.Operators.{value_of}
 use Rattle.js_program.specs.PlainProgram as p
 use Rattle.js_program.specs.PlainProgram.{PlainNodeForm, PlainNode, parts_of}
 use Rattle.js_meaning.specs.State.{Setting, State, normal, broke, continued, returned, left_by, Outcome, went, broken, violated, spent, stopped}
-use Rattle.js_meaning.specs.Meaning.{eval, turns_of, allowed}
+use Rattle.js_meaning.specs.Meaning.{eval, iterations_of, allowed}
 use Rattle.js_meaning.proofs.Later.{none_later}
 use Rattle.js_meaning.proofs.Walk.{bind, either, leaves_walk, gives_walk, slot_walk, writes_walk, sequence_walk, in_order_walk, for_each_from_walk, combines_walk, declaration_walk, each_walk, each_of_walk, perhaps_walk, node_walk}
-use Rattle.js_meaning.proofs.Following.{Well, Sure, sure_ways, turns_sure, eval_sure, left_follows, later_of}
+use Rattle.js_meaning.proofs.Following.{Well, Sure, sure_ways, iterations_sure, eval_sure, left_follows, later_of}
 use Rattle.js_frames.specs.declared.frame.Part.{Part}
 use Rattle.js_frames.specs.declared.frame.Part.TheVariants.{First, Second, Further, Or, And, Choice, When, Assigned, AssignedWith, Declared, Dropped, Returned, Statements, Started, Tested, Between, Listed, Walked}
 use Rattle.js_frames.specs.declared.frame.Iteration.{Iteration}
@@ -30,12 +30,12 @@ module _ (g : Setting) where
   begins_well : (n : ℕ) → Goes (eval g n)
   begins_well n = eval_sure g n
 
-  loop_goes : (test : Option ℕ) (body : ℕ) (next : Option ℕ) → Goes (turns_of g test body next)
-  unfolding turns_of
-  loop_goes test body next = record { at = λ s. (turns_sure g (eval g) begins_well (allowed g.budget s) test body next).at s }
+  loop_goes : (test : Option ℕ) (body : ℕ) (next : Option ℕ) → Goes (iterations_of g test body next)
+  unfolding iterations_of
+  loop_goes test body next = record { at = λ s. (iterations_sure g (eval g) begins_well (allowed g.budget s) test body next).at s }
 
   node_goes : (n : ℕ) → Goes (node_does g n)
-  node_goes n = node_walk g (Sure g) (sure_ways g) (eval g) (eval g) begins_well (turns_of g) (turns_of g) loop_goes (slice_get g.base.program.nodes n)
+  node_goes n = node_walk g (Sure g) (sure_ways g) (eval g) (eval g) begins_well (iterations_of g) (iterations_of g) loop_goes (slice_get g.base.program.nodes n)
 
   parts_go : (o : Option PlainNode) (done : List PlainValue) → Goes (parts_from g o done)
   parts_go None done = (sure_ways g).spending
@@ -69,7 +69,7 @@ module _ (g : Setting) where
   rest_goes (Started t) x = loop_goes t.test t.body t.next
   rest_goes (Tested t) x =
       either g (Sure g) (sure_ways g) (is_truthy x)
-      ((sure_ways g).turning _ _ _ _ (begins_well t.body) (bind g (Sure g) (sure_ways g) _ _ (perhaps_walk g (Sure g) (sure_ways g) (eval g) (eval g) begins_well t.next) (λ _. loop_goes t.test t.body t.next)))
+      ((sure_ways g).iterating _ _ _ _ (begins_well t.body) (bind g (Sure g) (sure_ways g) _ _ (perhaps_walk g (Sure g) (sure_ways g) (eval g) (eval g) begins_well t.next) (λ _. loop_goes t.test t.body t.next)))
       (leaves_walk g (Sure g) (sure_ways g))
   rest_goes (Between t) x = loop_goes t.test t.body t.next
   rest_goes (Listed k body line) x = each_of_walk g (Sure g) (sure_ways g) (eval g) (eval g) begins_well line k body x
@@ -136,7 +136,7 @@ module _ (g : Setting) where
   low_left fuel (spent e) l = l
   low_left fuel (stopped x y line e) l = l
 
-  -- a node that has begun with so much fuel leaves no more at the end of all that waits
+  -- a node that has begun with this much fuel leaves no more at the end of all that waits
   pub node_leaves : (n : ℕ) (s : State) (fs : List Frame) → s.replies ≡ [] → (left_by (plug g fs (node_does g n s))).fuel ≤ s.fuel
   node_leaves n s fs none =
       low_left s.fuel (plug g fs (node_does g n s)) (plug_low s.fuel fs (node_does g n s) (goes_low s.fuel (node_does g n) (node_goes n) s (none, omega arith)))

@@ -14,8 +14,8 @@ use Rattle.js_program.specs.declared.node.NodeForm.{NodeForm}
 use Rattle.js_meaning.specs.State as js
 use Rattle.js_meaning.specs.State.{State, Setting, Outcome, went, ◌>>=◌, gives, leaves}
 use Rattle.js_meaning.specs.Calls.{after_call, answer_of}
-use Rattle.js_meaning.specs.Statements.{after_turn}
-use Rattle.js_meaning.specs.Meaning.{does, does_node, begins_with, eval, turns_of}
+use Rattle.js_meaning.specs.Statements.{after_iteration}
+use Rattle.js_meaning.specs.Meaning.{does, does_node, begins_with, eval, iterations_of}
 use Rattle.js_meaning.proofs.Bound.{eval_begins}
 use Rattle.js_frames.specs.declared.step.Completion.{Completion}
 use Rattle.js_frames.specs.declared.step.Completion.TheVariants.{Normal, Broke, Continued, Returned}
@@ -246,12 +246,12 @@ module _ (base : js.Ground) where
   -- what `begin` answers for a node of this form
   module _ (old : Place) (n : ℕ) (found : Node) (at : slice_get base.program.nodes n ≡ Some (plain_node found)) (form : NodeForm) (is : found.form ≡ form) where
     abbrev node_at : State → Outcome
-    node_at s = does (setting_at base old) (eval (setting_at base old)) (turns_of (setting_at base old)) found.line (plain_node_form form) s
+    node_at s = does (setting_at base old) (eval (setting_at base old)) (iterations_of (setting_at base old)) found.line (plain_node_form form) s
 
     pub at_node : (s : State) → node_at s ≡ node_does (setting_at base old) n s
     at_node s =
-        ap (λ f. does (setting_at base old) (eval (setting_at base old)) (turns_of (setting_at base old)) found.line (plain_node_form f) s) (sym is)
-        ∙ ap (λ o. does_node (setting_at base old) (eval (setting_at base old)) (turns_of (setting_at base old)) o s) (sym at)
+        ap (λ f. does (setting_at base old) (eval (setting_at base old)) (iterations_of (setting_at base old)) found.line (plain_node_form f) s) (sym is)
+        ∙ ap (λ o. does_node (setting_at base old) (eval (setting_at base old)) (iterations_of (setting_at base old)) o s) (sym at)
 
     pub part_is : AreNodes base.program (parts_of (plain_node_form found.form)) → (k part : ℕ) → slice_get (parts_of (plain_node_form form)) k ≡ Some part → IsNode base.program part
     part_is h k part e = h k part (ap (λ f. slice_get (parts_of (plain_node_form f)) k) is ∙ e)
@@ -293,8 +293,8 @@ passes Continued f s h = refl
 passes (Returned v) f s h = refl
 
 -- what goes on with the next iteration
-pub turns_on : (c : Completion) (f : State → Outcome) (s : State) → (((v : Value) × (c ≡ Normal v)) ⊎ (c ≡ Continued)) → f s ≡ after_turn (went (plain_completion c) s) f
-turns_on c f s h = elim h [ inl e ↦ ap (λ q. after_turn (went (plain_completion q) s) f) (sym e.1) | inr e ↦ ap (λ q. after_turn (went (plain_completion q) s) f) (sym e) ]
+pub iterates_on : (c : Completion) (f : State → Outcome) (s : State) → (((v : Value) × (c ≡ Normal v)) ⊎ (c ≡ Continued)) → f s ≡ after_iteration (went (plain_completion c) s) f
+iterates_on c f s h = elim h [ inl e ↦ ap (λ q. after_iteration (went (plain_completion q) s) f) (sym e.1) | inr e ↦ ap (λ q. after_iteration (went (plain_completion q) s) f) (sym e) ]
 
 -- a call is over
 gives_step : (base : js.Ground) (old : Place) (slots : List (Option PlainValue)) (n : ℕ) (x : PlainValue) (step : Step) → Gives x step → StackFits base.program old.stack → Leads base old (λ s. gives x (record s { slots = slots; calls = n })) (record old { slots = slots; calls = n }) step

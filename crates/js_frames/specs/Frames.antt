@@ -14,8 +14,8 @@ use Rattle.js_meaning.specs.Variables.{in_slot, if_declared, set_variable, undec
 use Rattle.js_meaning.specs.Calls.{body_of, after_call, sequence, in_order, for_each_from}
 use Rattle.js_meaning.specs.Forms.{asks}
 use Rattle.js_meaning.specs.Expressions.{writes, combines}
-use Rattle.js_meaning.specs.Statements.{after_turn, does_declaration, perhaps, each, each_of}
-use Rattle.js_meaning.specs.Meaning.{eval, turns_of}
+use Rattle.js_meaning.specs.Statements.{after_iteration, does_declaration, perhaps, each, each_of}
+use Rattle.js_meaning.specs.Meaning.{eval, iterations_of}
 use Rattle.js_frames.specs.declared.step.Completion.{Completion}
 use Rattle.js_frames.specs.declared.step.Completion.TheVariants.{Normal, Broke, Continued, Returned as ReturnedOf}
 use Rattle.js_frames.specs.declared.step.Step.{Step}
@@ -81,7 +81,7 @@ module _ (g : Setting) where
 
   -- a loop at its test
   abbrev pub loop : Loop → State → Outcome
-  loop t s = turns_of g t.test t.body t.next s
+  loop t s = iterations_of g t.test t.body t.next s
 
   -- a `for`
   abbrev pub starts_loop : List ℕ → Option ℕ → Loop → State → Outcome
@@ -117,8 +117,8 @@ module _ (g : Setting) where
   rest (Started t) x s = loop t s
   rest (Tested t) x s =
       cond (is_truthy x)
-      (λ now. after_turn (eval g t.body now) (λ later. perhaps (eval g) t.next later >>= λ _. loop t))
-      leaves s
+      (λ now. after_iteration (eval g t.body now)
+      (λ later. perhaps (eval g) t.next later >>= λ _. loop t)) leaves s
   rest (Between t) x s = loop t s
   rest (Listed k body line) x s = each_of (eval g) line k body x s
   rest (Walked w) x s = walk_from w s
@@ -131,7 +131,7 @@ module _ (g : Setting) where
   -- what waits goes on with an outcome
   unfoldable pub resume : Frame → Outcome → Outcome
   resume (Waiting part) o = o >>= rest part
-  resume (Iterating iteration) o = after_turn o (again iteration)
+  resume (Iterating iteration) o = after_iteration o (again iteration)
   resume (Called slots active) o = after_call slots active o
 
   -- all that waits goes on with an outcome, the last frame first

@@ -161,7 +161,7 @@ abbrev pub if_zero : ℕ → Pause → Pause → Pause
 if_zero zero a b = a
 if_zero (suc n) a b = b
 
--- why a machine stops with so much fuel before a step
+-- why a machine stops with this much fuel before a step
 abbrev pub pause_of : ℕ → Step → Pause
 pause_of fuel (Begin n) = if_zero fuel pause.Spent pause.More
 pause_of fuel (Give c) = pause.Ended

@@ -42,7 +42,7 @@ fn made_function(alloc: Global, code: u32, values: Vec<Value>, line: u32) -> Res
 impl Engine {
     /// The value of a variable, if it is declared.
     #[inline(always)]
-    pub fn held<'a>(&'a self, base: &'a Ground, variable: Variable) -> Option<&'a Value>
+    pub(crate) fn held<'a>(&'a self, base: &'a Ground, variable: Variable) -> Option<&'a Value>
         ensures { option_map (λ v. plain_value v.now) result
             ≡ held_at (plain_ground base.now) variable (place_of self.now) }
     {
@@ -65,7 +65,12 @@ impl Engine {
 
     /// A variable is read.
     #[inline(always)]
-    pub fn read(&mut self, base: &Ground, variable: Variable, line: u32) -> Result<Step, Memory>
+    pub(crate) fn read(
+        &mut self,
+        base: &Ground,
+        variable: Variable,
+        line: u32,
+    ) -> Result<Step, Memory>
         requires { StackFits base.now.program self.old.stack.items }
         ensures { Goes base.now self.old
             (λ s. if_declared line (held (plain_ground base.now) variable s) gives s)
@@ -82,7 +87,7 @@ impl Engine {
 
     /// `x++` and its kind.
     #[inline(never)]
-    pub fn update(
+    pub(crate) fn update(
         &mut self,
         base: &Ground,
         step: Change,
@@ -170,7 +175,7 @@ impl Engine {
 
     /// The value of an assignment begins; with an operator the variable is read before.
     #[inline(always)]
-    pub fn assign(
+    pub(crate) fn assign(
         &mut self,
         base: &Ground,
         operator: AssignOp,
@@ -216,7 +221,7 @@ impl Engine {
 
     /// `x = e` has its value, and looks whether x is declared.
     #[inline(always)]
-    pub fn assigned(
+    pub(crate) fn assigned(
         &mut self,
         base: &Ground,
         slot: u32,
@@ -236,7 +241,7 @@ impl Engine {
 
     /// `x op= e` has its value.
     #[inline(never)]
-    pub fn assigned_with(
+    pub(crate) fn assigned_with(
         &mut self,
         base: &Ground,
         op: Op,
@@ -255,7 +260,7 @@ impl Engine {
 
     /// A function is made, with the values that it captures.
     #[inline(never)]
-    pub fn function(&mut self, base: &Ground, code: u32, line: u32) -> Result<Step, Memory>
+    pub(crate) fn function(&mut self, base: &Ground, code: u32, line: u32) -> Result<Step, Memory>
         requires { StackFits base.now.program self.old.stack.items }
         ensures { Goes base.now self.old
             (λ s. answered line (made (function code (value_list_of

@@ -87,7 +87,7 @@ impl Engine {
     /// entered, so the nodes that loops are made of stand here, and all others in a function of their
     /// own.
     #[inline(always)]
-    pub fn begin(&mut self, base: &Ground, number: u32) -> Result<Step, Memory>
+    pub(crate) fn begin(&mut self, base: &Ground, number: u32) -> Result<Step, Memory>
         requires number { IsNode base.now.program number }
         requires fits { StackFits base.now.program self.old.stack.items }
         ensures { Goes base.now self.old (node_does (here base.now self.old) number)

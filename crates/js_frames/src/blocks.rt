@@ -70,7 +70,12 @@ fn declarator_at(declared: &[Declared], place: usize) -> Option<Declared>
 impl Engine {
     /// A block: its variables are not declared yet, and its first statement begins.
     #[inline(never)]
-    pub fn block(&mut self, base: &Ground, slots: &[u32], number: u32) -> Result<Step, Memory>
+    pub(crate) fn block(
+        &mut self,
+        base: &Ground,
+        slots: &[u32],
+        number: u32,
+    ) -> Result<Step, Memory>
         requires number { IsNode base.now.program number }
         requires fits { StackFits base.now.program self.old.stack.items }
         ensures { Goes base.now self.old
@@ -83,7 +88,12 @@ impl Engine {
 
     /// The statement at this place begins, if there is one.
     #[inline(always)]
-    pub fn go_on(&mut self, base: &Ground, sequence: Sequence, place: usize) -> Result<Step, Memory>
+    pub(crate) fn go_on(
+        &mut self,
+        base: &Ground,
+        sequence: Sequence,
+        place: usize,
+    ) -> Result<Step, Memory>
         requires sequence { SequenceFits base.now.program sequence }
         requires fits { StackFits base.now.program self.old.stack.items }
         ensures { Goes base.now self.old (sequence_from (here base.now self.old) sequence place)
@@ -100,7 +110,7 @@ impl Engine {
 
     /// The declarators from this place on: the value of the first that has one begins.
     #[inline(never)]
-    pub fn go_on_declaring(
+    pub(crate) fn go_on_declaring(
         &mut self,
         base: &Ground,
         number: u32,
@@ -165,7 +175,7 @@ impl Engine {
 
     /// A variable has its value, and the declarators from this place on follow.
     #[inline(never)]
-    pub fn declared(
+    pub(crate) fn declared(
         &mut self,
         base: &Ground,
         number: u32,

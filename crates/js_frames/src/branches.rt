@@ -13,7 +13,7 @@ use js_value::{Value, truthy};
 
 /// The right side, where the left one is not true.
 #[inline(always)]
-pub fn or(right: u32, left: Value) -> Step
+pub(crate) fn or(right: u32, left: Value) -> Step
     ensures { (program : PlainProgram) → IsNode program right →
         Picks program (λ g. cond (is_truthy (plain_value left))
         (gives (plain_value left)) (eval g right)) result }
@@ -27,7 +27,7 @@ pub fn or(right: u32, left: Value) -> Step
 
 /// The right side, where the left one is true.
 #[inline(always)]
-pub fn and(right: u32, left: Value) -> Step
+pub(crate) fn and(right: u32, left: Value) -> Step
     ensures { (program : PlainProgram) → IsNode program right →
         Picks program (λ g. cond (is_truthy (plain_value left))
         (eval g right) (gives (plain_value left))) result }
@@ -41,7 +41,7 @@ pub fn and(right: u32, left: Value) -> Step
 
 /// One of two.
 #[inline(always)]
-pub fn choose(yes: u32, no: u32, test: &Value) -> Step
+pub(crate) fn choose(yes: u32, no: u32, test: &Value) -> Step
     ensures { (program : PlainProgram) → IsNode program yes → IsNode program no →
         Picks program (λ g. cond (is_truthy (plain_value test.now)) (eval g yes) (eval g no))
         result }
@@ -55,7 +55,7 @@ pub fn choose(yes: u32, no: u32, test: &Value) -> Step
 
 /// The body, where the test is true.
 #[inline(always)]
-pub fn when(body: u32, test: &Value) -> Step
+pub(crate) fn when(body: u32, test: &Value) -> Step
     ensures { (program : PlainProgram) → IsNode program body →
         Picks program (λ g. cond (is_truthy (plain_value test.now)) (eval g body) leaves) result }
 {

@@ -35,7 +35,7 @@ fn answer(completion: Completion) -> Value
 }
 
 /// The function of this number, if there is one.
-pub fn function_of(base: &Ground, code: u32) -> Option<&Body>
+pub(crate) fn function_of(base: &Ground, code: u32) -> Option<&Body>
     ensures { option_map (λ b. plain_body b.now) result
         ≡ slice_get base.now.program.functions code }
 {
@@ -47,7 +47,7 @@ pub fn function_of(base: &Ground, code: u32) -> Option<&Body>
 }
 
 /// The node that a body begins with, if it has one.
-pub fn first_in(content: &Content) -> Option<u32>
+pub(crate) fn first_in(content: &Content) -> Option<u32>
     ensures { result ≡ first_of (plain_content content.now) }
 {
     match content {
@@ -58,7 +58,7 @@ pub fn first_in(content: &Content) -> Option<u32>
 
 impl Engine {
     /// A call of a value: what is no function cannot be called, and neither can one more than 200.
-    pub fn call(
+    pub(crate) fn call(
         &mut self,
         base: &Ground,
         line: u32,
@@ -106,7 +106,7 @@ impl Engine {
     }
 
     /// A body begins with its own slots, while this many calls are active.
-    pub fn enter(
+    pub(crate) fn enter(
         &mut self,
         base: &Ground,
         body: &Body,
@@ -156,7 +156,7 @@ impl Engine {
 
     /// The caller's slots again, and what the call answers.
     #[inline(never)]
-    pub fn return_to(&mut self, slots: Slots, calls: u32, completion: Completion) -> Step
+    pub(crate) fn return_to(&mut self, slots: Slots, calls: u32, completion: Completion) -> Step
         ensures step { Gives (answer_of (plain_completion completion)) result }
         ensures place { place_of self.new
             ≡ record (place_of self.old) { slots = slots; calls = calls } }
@@ -167,7 +167,7 @@ impl Engine {
     }
 
     /// The top level begins.
-    pub fn begin_top(&mut self, base: &Ground) -> Result<Step, Memory>
+    pub(crate) fn begin_top(&mut self, base: &Ground) -> Result<Step, Memory>
         requires { StackFits base.now.program self.old.stack.items }
         ensures goes { Goes base.now self.old
             (enters (eval (here base.now self.old)) 0 base.now.program.top [] [])

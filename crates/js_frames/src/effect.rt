@@ -36,7 +36,7 @@ impl Effects {
     }
 
     /// No effects any more.
-    pub fn clear(&mut self)
+    pub(crate) fn clear(&mut self)
         ensures { plain_effects self.new ≡ [] }
     {
         self.items.clear();

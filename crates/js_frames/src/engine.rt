@@ -14,21 +14,21 @@ use std::alloc::Global;
 use std::mem;
 
 /// What a machine keeps between two steps.
-pub struct Engine {
-    pub alloc: Global,
-    pub mode: Mode,
-    pub stack: Vec<Frame>,
-    pub slots: Slots,
+pub(crate) struct Engine {
+    pub(crate) alloc: Global,
+    pub(crate) mode: Mode,
+    pub(crate) stack: Vec<Frame>,
+    pub(crate) slots: Slots,
     /// At the top level the constants so far.
-    pub constants: Option<Constants>,
-    pub calls: u32,
-    pub fuel: u64,
+    pub(crate) constants: Option<Constants>,
+    pub(crate) calls: u32,
+    pub(crate) fuel: u64,
     /// What is left of the fuel at the end of the slice: above it nodes may begin.
-    pub floor: u64,
-    pub budget: u64,
-    pub effects: Effects,
+    pub(crate) floor: u64,
+    pub(crate) budget: u64,
+    pub(crate) effects: Effects,
     /// Lists of values that are done with: their room serves the nodes that come.
-    pub spare: Vec<Values>,
+    pub(crate) spare: Vec<Values>,
 }
 
 impl Drop for Engine {
@@ -51,7 +51,12 @@ impl Drop for Engine {
 
 impl Engine {
     /// Before anything has begun.
-    pub fn new(alloc: Global, mode: Mode, budget: u64, constants: Option<Constants>) -> Engine
+    pub(crate) fn new(
+        alloc: Global,
+        mode: Mode,
+        budget: u64,
+        constants: Option<Constants>,
+    ) -> Engine
         ensures { place_of result ≡ fresh mode budget constants }
     {
         Engine {
@@ -70,7 +75,7 @@ impl Engine {
     }
 
     /// Before anything has begun, outside of the top level: of what there was, the room alone stays.
-    pub fn begin_anew(&mut self, mode: Mode, budget: u64)
+    pub(crate) fn begin_anew(&mut self, mode: Mode, budget: u64)
         ensures { place_of self.new ≡ fresh mode budget None }
     {
         self.mode = mode;
@@ -85,7 +90,7 @@ impl Engine {
     }
 
     /// No values, in a room that is spare where there is one.
-    pub fn no_values(&mut self) -> Values
+    pub(crate) fn no_values(&mut self) -> Values
         ensures none { result ≡ [] }
         ensures same { place_of self.new ≡ place_of self.old }
     {
@@ -99,7 +104,7 @@ impl Engine {
     }
 
     /// Values that are done with: their room is spare, if there is memory for that.
-    pub fn done_with(&mut self, values: Values)
+    pub(crate) fn done_with(&mut self, values: Values)
         ensures { place_of self.new ≡ place_of self.old }
     {
         let mut emptied = values;
@@ -108,14 +113,14 @@ impl Engine {
     }
 
     /// The budget is whole again.
-    pub fn refill(&mut self)
+    pub(crate) fn refill(&mut self)
         ensures { place_of self.new ≡ record (place_of self.old) { fuel = self.old.budget } }
     {
         self.fuel = self.budget;
     }
 
     /// The effects since the last taking.
-    pub fn take_effects(&mut self) -> Effects
+    pub(crate) fn take_effects(&mut self) -> Effects
         ensures effects { result ≡ self.old.effects }
         ensures place { place_of self.new ≡ record (place_of self.old) { effects = [] } }
     {
@@ -123,7 +128,7 @@ impl Engine {
     }
 
     /// The constants so far; none where it has none.
-    pub fn into_constants(self) -> Constants
+    pub(crate) fn into_constants(self) -> Constants
         ensures { result ≡ unwrap_or self.constants [] }
     {
         let Engine {
@@ -144,7 +149,7 @@ impl Engine {
 
     /// Begins a part, and has a frame wait for it.
     #[inline(always)]
-    pub fn wait(&mut self, part: u32, frame: Frame) -> Result<Step, Memory>
+    pub(crate) fn wait(&mut self, part: u32, frame: Frame) -> Result<Step, Memory>
         ensures { IfOk result (λ step. (step ≡ Step.Begin part)
             × (place_of self.new ≡ pushed (place_of self.old) frame)) }
     {

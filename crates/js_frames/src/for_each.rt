@@ -69,7 +69,7 @@ fn element_args(
 
 impl Engine {
     /// `forEach` with its arguments.
-    pub fn for_each(
+    pub(crate) fn for_each(
         &mut self,
         base: &Ground,
         line: u32,
@@ -99,7 +99,7 @@ impl Engine {
 
     /// The function is called with the element at the index, if there is one.
     #[inline(never)]
-    pub fn walk(&mut self, base: &Ground, walk: Walk) -> Result<Step, Memory>
+    pub(crate) fn walk(&mut self, base: &Ground, walk: Walk) -> Result<Step, Memory>
         requires { StackFits base.now.program self.old.stack.items }
         ensures { Goes base.now self.old (walk_from (here base.now self.old) walk) self.new result }
     {

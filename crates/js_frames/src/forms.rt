@@ -100,7 +100,7 @@ fn json_text(alloc: Global, value: &Value) -> Result<Option<Text>, Memory>
 impl Engine {
     /// In a mode where the form has no effect it is the fault `mode`. The form is done with its
     /// arguments.
-    pub fn apply_form(
+    pub(crate) fn apply_form(
         &mut self,
         base: &Ground,
         line: u32,

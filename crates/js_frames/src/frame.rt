@@ -6,15 +6,15 @@ use js_value::{Items, Op, Value};
 
 /// A loop's test, its body, and what comes between two iterations.
 #[derive(Clone, Copy)]
-pub struct Loop {
-    pub test: Option<u32>,
-    pub body: u32,
-    pub next: Option<u32>,
+pub(crate) struct Loop {
+    pub(crate) test: Option<u32>,
+    pub(crate) body: u32,
+    pub(crate) next: Option<u32>,
 }
 
 /// Whose statements are done in order.
 #[derive(Clone, Copy)]
-pub enum Sequence {
+pub(crate) enum Sequence {
     /// Those of the block of this number.
     Block(u32),
     /// Those of the function of this number.
@@ -25,17 +25,17 @@ pub enum Sequence {
 
 /// A call of `forEach`: the function, the list and the index of the next element.
 #[derive(Drop)]
-pub struct Walk {
-    pub code: u32,
-    pub captured: Items,
-    pub items: Items,
-    pub index: usize,
-    pub line: u32,
+pub(crate) struct Walk {
+    pub(crate) code: u32,
+    pub(crate) captured: Items,
+    pub(crate) items: Items,
+    pub(crate) index: usize,
+    pub(crate) line: u32,
 }
 
 /// A node that waits for the value of one of its parts.
 #[derive(Drop)]
-pub enum Part {
+pub(crate) enum Part {
     /// A node with one or two parts, for the first of them.
     First(u32),
     /// A node with two parts, for the second.
@@ -76,7 +76,7 @@ pub enum Part {
 
 /// A loop that waits for its body.
 #[derive(Drop)]
-pub enum Iteration {
+pub(crate) enum Iteration {
     /// Of a `while` or a `for`.
     OfLoop(Loop),
     /// Of a `for of`: the slot, the body, the list and the place of the next element.
@@ -85,7 +85,7 @@ pub enum Iteration {
 
 /// What waits for something to complete.
 #[derive(Drop)]
-pub enum Frame {
+pub(crate) enum Frame {
     Waiting(Part),
     Iterating(Iteration),
     /// A call, which keeps the caller's slots and how many calls were active.

@@ -17,7 +17,7 @@ use js_value::Value;
 impl Engine {
     /// What a frame does once what it waits for completes.
     #[inline(always)]
-    pub fn give(
+    pub(crate) fn give(
         &mut self,
         base: &Ground,
         frame: Frame,

@@ -53,7 +53,7 @@ impl Ground {
     }
 
     /// What its program keeps, as a fact for its callers. Does nothing.
-    pub fn keeps(&self)
+    pub(crate) fn keeps(&self)
         ensures { IsSound self.now.program }
     {
         // For the proof: what the program keeps.
@@ -61,14 +61,14 @@ impl Ground {
     }
 
     /// The constants.
-    pub fn constants(&self) -> &Constants
+    pub(crate) fn constants(&self) -> &Constants
         ensures { result.now ≡ self.now.constants }
     {
         &self.constants
     }
 
     /// The table of the rules, which each operator is lent.
-    pub fn rules(&self) -> &Rules
+    pub(crate) fn rules(&self) -> &Rules
         ensures { result.now ≡ self.now.rules }
     {
         &self.rules

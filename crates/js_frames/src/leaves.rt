@@ -17,7 +17,7 @@ use js_value::{Value, copy};
 impl Engine {
     /// The value of a number or of a variable that is declared; none of any other node.
     #[inline(always)]
-    pub fn leaf_value(&self, base: &Ground, number: u32) -> Result<Option<Value>, Memory>
+    pub(crate) fn leaf_value(&self, base: &Ground, number: u32) -> Result<Option<Value>, Memory>
         requires { IsNode base.now.program number }
         ensures { IfOk result (λ found. option_map plain_value found ≡ leaf_of
             (plain_ground base.now) (place_of self.now) (slice_get base.now.program.nodes number)) }
@@ -37,7 +37,7 @@ impl Engine {
 
     /// A part begins and gives its value, if it is such a node and the slice allows one more.
     #[inline(always)]
-    pub fn begin_leaf(&mut self, base: &Ground, part: u32) -> Result<Option<Value>, Memory>
+    pub(crate) fn begin_leaf(&mut self, base: &Ground, part: u32) -> Result<Option<Value>, Memory>
         requires { IsNode base.now.program part }
         ensures some { IfOk result (λ found. IfSome found (λ value. Gave (plain_ground base.now)
             (place_of self.old) part (plain_value value) (place_of self.new))) }
@@ -62,7 +62,12 @@ impl Engine {
 
     /// The first part of a node with one or two: the node goes on with its value, or waits for it.
     #[inline(always)]
-    pub fn begin_first(&mut self, base: &Ground, number: u32, part: u32) -> Result<Step, Memory>
+    pub(crate) fn begin_first(
+        &mut self,
+        base: &Ground,
+        number: u32,
+        part: u32,
+    ) -> Result<Step, Memory>
         requires number { IsNode base.now.program number }
         requires form { HasForm IsShort base.now.program number }
         requires part { IsNode base.now.program part }
@@ -80,7 +85,7 @@ impl Engine {
 
     /// The second part of a node with two, the same way.
     #[inline(always)]
-    pub fn begin_second(
+    pub(crate) fn begin_second(
         &mut self,
         base: &Ground,
         number: u32,

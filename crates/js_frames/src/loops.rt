@@ -2,7 +2,7 @@
 ghost use Rattle.js_value.specs.Views.{plain_value};
 ghost use Rattle.js_meaning.specs.State.{went};
 ghost use Rattle.js_meaning.specs.Variables.{undeclare};
-ghost use Rattle.js_meaning.specs.Statements.{after_turn, each_of, does_for_of};
+ghost use Rattle.js_meaning.specs.Statements.{after_iteration, each_of, does_for_of};
 ghost use Rattle.js_meaning.specs.Meaning.{eval};
 ghost use Rattle.js_frames.specs.Places.{here};
 ghost use Rattle.js_frames.specs.Frames.{plain_completion, rest, again, resume, loop, starts_loop, items_from};
@@ -20,7 +20,7 @@ use js_value::{Items, Value, copy, truthy};
 impl Engine {
     /// A `for`: its variables are not declared yet, and its first part begins, if it has one.
     #[inline(never)]
-    pub fn start_loop(
+    pub(crate) fn start_loop(
         &mut self,
         base: &Ground,
         slots: &[u32],
@@ -43,7 +43,7 @@ impl Engine {
 
     /// The test of a loop begins; an absent one is true.
     #[inline(always)]
-    pub fn test(&mut self, base: &Ground, cycle: Loop) -> Result<Step, Memory>
+    pub(crate) fn test(&mut self, base: &Ground, cycle: Loop) -> Result<Step, Memory>
         requires cycle { LoopFits base.now.program cycle }
         requires fits { StackFits base.now.program self.old.stack.items }
         ensures { Goes base.now self.old
@@ -62,7 +62,7 @@ impl Engine {
         requires cycle { LoopFits base.now.program cycle }
         requires fits { StackFits base.now.program self.old.stack.items }
         ensures { let g = here base.now self.old in Goes base.now self.old
-            (λ s. after_turn (eval g cycle.body s) (again g (Iteration.OfLoop cycle)))
+            (λ s. after_iteration (eval g cycle.body s) (again g (Iteration.OfLoop cycle)))
             self.new result }
     {
         self.wait(cycle.body, Frame::Iterating(Iteration::OfLoop(cycle)))
@@ -70,7 +70,12 @@ impl Engine {
 
     /// The test of a loop has its value.
     #[inline(always)]
-    pub fn tested(&mut self, base: &Ground, cycle: Loop, value: Value) -> Result<Step, Memory>
+    pub(crate) fn tested(
+        &mut self,
+        base: &Ground,
+        cycle: Loop,
+        value: Value,
+    ) -> Result<Step, Memory>
         requires cycle { LoopFits base.now.program cycle }
         requires fits { StackFits base.now.program self.old.stack.items }
         ensures { Goes base.now self.old
@@ -101,7 +106,7 @@ impl Engine {
 
     /// A `for of`: its variable is not declared yet, and its list begins.
     #[inline(never)]
-    pub fn for_of(
+    pub(crate) fn for_of(
         &mut self,
         base: &Ground,
         slot: u32,
@@ -122,7 +127,7 @@ impl Engine {
 
     /// The list of a `for of` has its value.
     #[inline(never)]
-    pub fn listed(
+    pub(crate) fn listed(
         &mut self,
         base: &Ground,
         slot: u32,
@@ -188,7 +193,7 @@ impl Engine {
 
     /// The body of a loop has completed.
     #[inline(never)]
-    pub fn give_iteration(
+    pub(crate) fn give_iteration(
         &mut self,
         base: &Ground,
         iteration: Iteration,

@@ -24,7 +24,7 @@ use std::alloc::{AllocError, Global};
 /// Why a machine stops.
 #[derive(Drop)]
 pub enum Pause {
-    /// This many nodes began as were asked for, another must, and there is budget.
+    /// As many nodes began as were asked for, another must, and there is budget.
     More,
     /// At `bp.sync`.
     AtSync,
@@ -39,7 +39,7 @@ pub enum Pause {
 }
 
 /// What a machine goes on with.
-pub enum Pending {
+pub(crate) enum Pending {
     /// A step.
     Next(Step),
     /// The event that `bp.sync` answers.
@@ -75,8 +75,8 @@ impl Pending {
 
 /// A machine, which runs the top level or a call of a function in slices.
 pub struct Machine {
-    pub engine: Engine,
-    pub pending: Option<Pending>,
+    engine: Engine,
+    pending: Option<Pending>,
 }
 
 impl Drop for Machine {

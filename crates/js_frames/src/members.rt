@@ -91,7 +91,7 @@ impl Engine {
 
     /// A member begins. One of an event's data may be read there at once.
     #[inline(never)]
-    pub fn begin_member(
+    pub(crate) fn begin_member(
         &mut self,
         base: &Ground,
         number: u32,

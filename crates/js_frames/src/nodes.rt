@@ -9,7 +9,7 @@ use js_program::Node;
 
 /// The node of this number.
 #[inline(always)]
-pub fn node_of(base: &Ground, number: u32) -> &Node
+pub(crate) fn node_of(base: &Ground, number: u32) -> &Node
     requires { IsNode base.now.program number }
     ensures node { slice_get base.now.program.nodes number ≡ Some (plain_node result.now) }
     ensures parts { AreNodes base.now.program (parts_of (plain_node_form result.now.form)) }

@@ -7,7 +7,7 @@ use js_value::{Op, Unary};
 
 /// The unary operator of a sign.
 #[inline(always)]
-pub fn unary_for(sign: Sign) -> Unary
+pub(crate) fn unary_for(sign: Sign) -> Unary
     ensures { result ≡ unary_for sign }
 {
     match sign {
@@ -18,7 +18,7 @@ pub fn unary_for(sign: Sign) -> Unary
 }
 
 /// The unary operator of an update.
-pub fn step_for(step: Step) -> Unary
+pub(crate) fn step_for(step: Step) -> Unary
     ensures { result ≡ step_for step }
 {
     match step {
@@ -29,7 +29,7 @@ pub fn step_for(step: Step) -> Unary
 
 /// The operator; none for `||` and `&&`.
 #[inline(always)]
-pub fn op_for(operator: Operator) -> Option<Op>
+pub(crate) fn op_for(operator: Operator) -> Option<Op>
     ensures { result ≡ op_for operator }
 {
     match operator {
@@ -51,7 +51,7 @@ pub fn op_for(operator: Operator) -> Option<Op>
 }
 
 /// The operator of an assignment; none for `=`.
-pub fn op_before(operator: AssignOp) -> Option<Op>
+pub(crate) fn op_before(operator: AssignOp) -> Option<Op>
     ensures { result ≡ op_before operator }
 {
     match operator {

@@ -131,7 +131,7 @@ fn method_step(
 impl Engine {
     /// The first part begins, if there is one.
     #[inline(never)]
-    pub fn begin_parts(&mut self, base: &Ground, number: u32) -> Result<Step, Memory>
+    pub(crate) fn begin_parts(&mut self, base: &Ground, number: u32) -> Result<Step, Memory>
         requires number { IsNode base.now.program number }
         requires form { HasForm IsLong base.now.program number }
         requires fits { StackFits base.now.program self.old.stack.items }
@@ -144,7 +144,12 @@ impl Engine {
     }
 
     /// The same, of a node whose value holds those of its parts: this many have room in it.
-    pub fn begin_making(&mut self, base: &Ground, number: u32, count: usize) -> Result<Step, Memory>
+    pub(crate) fn begin_making(
+        &mut self,
+        base: &Ground,
+        number: u32,
+        count: usize,
+    ) -> Result<Step, Memory>
         requires number { IsNode base.now.program number }
         requires form { HasForm IsLong base.now.program number }
         requires fits { StackFits base.now.program self.old.stack.items }
@@ -157,7 +162,7 @@ impl Engine {
     }
 
     /// The next parts that only give a value begin; then another, or the node has all values.
-    pub fn go_on_parts(&mut self, base: &Ground, number: u32, done: Values) -> Result<Step, Memory>
+    fn go_on_parts(&mut self, base: &Ground, number: u32, done: Values) -> Result<Step, Memory>
         requires number { IsNode base.now.program number }
         requires form { HasForm IsLong base.now.program number }
         requires fits { StackFits base.now.program self.old.stack.items }
@@ -179,7 +184,7 @@ impl Engine {
 
     /// One more part has its value.
     #[inline(never)]
-    pub fn further(
+    pub(crate) fn further(
         &mut self,
         base: &Ground,
         number: u32,
@@ -199,7 +204,7 @@ impl Engine {
 
     /// The first part of a node with one or two has its value.
     #[inline(always)]
-    pub fn first(&mut self, base: &Ground, number: u32, value: Value) -> Result<Step, Memory>
+    pub(crate) fn first(&mut self, base: &Ground, number: u32, value: Value) -> Result<Step, Memory>
         requires number { IsNode base.now.program number }
         requires form { HasForm IsShort base.now.program number }
         requires fits { StackFits base.now.program self.old.stack.items }
@@ -219,7 +224,7 @@ impl Engine {
 
     /// The second part of a node with two has its value.
     #[inline(always)]
-    pub fn second(
+    pub(crate) fn second(
         &mut self,
         base: &Ground,
         number: u32,

@@ -56,7 +56,7 @@ impl Engine {
     }
 
     /// Goes on until this many nodes have begun and another must, or until something else stops it.
-    pub fn advance(&mut self, base: &Ground, step: Step, nodes: u64) -> Result<Step, Memory>
+    pub(crate) fn advance(&mut self, base: &Ground, step: Step, nodes: u64) -> Result<Step, Memory>
         requires step { StepFits base.now.program step }
         requires fits { StackFits base.now.program self.old.stack.items }
         ensures { IfOk result (λ last. (begun : ℕ) × Advanced (plain_ground base.now)

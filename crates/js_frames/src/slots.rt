@@ -45,7 +45,7 @@ impl Model for Slots {
 
 impl Slots {
     /// No variables.
-    pub fn new(alloc: Global) -> Slots
+    pub(crate) fn new(alloc: Global) -> Slots
         ensures { result ≡ [] }
     {
         Slots {
@@ -62,14 +62,14 @@ impl Slots {
     }
 
     /// No variables any more; the room stays.
-    pub fn clear(&mut self)
+    pub(crate) fn clear(&mut self)
         ensures { self.new ≡ [] }
     {
         self.items.clear();
     }
 
     /// How many there are.
-    pub fn len(&self) -> usize
+    pub(crate) fn len(&self) -> usize
         ensures { result ≡ length self.now }
     {
         self.items.len()
@@ -77,7 +77,7 @@ impl Slots {
 
     /// The value of a variable, if it is declared.
     #[inline(always)]
-    pub fn get(&self, number: u32) -> Option<&Value>
+    pub(crate) fn get(&self, number: u32) -> Option<&Value>
         ensures { option_map (λ v. plain_value v.now) result ≡ in_slot number self.now }
     {
         match self.items.get(number as usize) {
@@ -88,7 +88,7 @@ impl Slots {
     }
 
     /// A copy of the value of a variable; undefined where it is not declared.
-    pub fn copy_of(&self, number: u32) -> Result<Value, Memory>
+    pub(crate) fn copy_of(&self, number: u32) -> Result<Value, Memory>
         ensures { IfOk result (λ v. plain_value v ≡ unwrap_or (in_slot number self.now) undefined) }
     {
         match self.get(number) {
@@ -99,7 +99,7 @@ impl Slots {
 
     /// Sets a variable, if there is one of this number.
     #[inline(always)]
-    pub fn set(&mut self, number: u32, value: Option<Value>)
+    pub(crate) fn set(&mut self, number: u32, value: Option<Value>)
         ensures { self.new ≡ slice_set self.old number (option_map plain_value value) }
     {
         let place = number as usize;
@@ -118,7 +118,7 @@ impl Slots {
     }
 
     /// One more variable.
-    pub fn push(&mut self, value: Option<Value>) -> Result<(), Memory>
+    pub(crate) fn push(&mut self, value: Option<Value>) -> Result<(), Memory>
         ensures { OnOk result (self.new ≡ self.old ++ option_map plain_value value ∷ []) }
     {
         self.items.push(value)?;
@@ -126,7 +126,7 @@ impl Slots {
     }
 
     /// The variables with these numbers are not declared.
-    pub fn undeclare(&mut self, numbers: &[u32])
+    pub(crate) fn undeclare(&mut self, numbers: &[u32])
         ensures { self.new ≡ fold (λ slots k. slice_set slots k None) self.old numbers.now }
     {
         for number in numbers {
@@ -178,7 +178,7 @@ impl Slots {
 
     /// The variables of a call: the parameters, to which the arguments move, the captured values,
     /// and the other variables.
-    pub fn of_call(
+    pub(crate) fn of_call(
         alloc: Global,
         body: &Body,
         captured: &Items,
@@ -212,7 +212,7 @@ fn constant_start(alloc: Global, start: ConstantStart) -> Result<Option<Value>, 
 }
 
 /// What the constants hold before the program runs.
-pub fn constants_start(alloc: Global, program: &Program) -> Result<Constants, Memory>
+pub(crate) fn constants_start(alloc: Global, program: &Program) -> Result<Constants, Memory>
     ensures { IfOk result (λ cs. cs ≡ map constant_start program.now.constants) }
 {
     let mut constants = Constants::new(alloc);

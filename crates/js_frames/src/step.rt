@@ -13,7 +13,7 @@ use std::alloc::AllocError;
 
 /// How a node completes.
 #[derive(Drop)]
-pub enum Completion {
+pub(crate) enum Completion {
     Normal(Value),
     Broke,
     Continued,
@@ -22,7 +22,7 @@ pub enum Completion {
 
 /// What comes next.
 #[derive(Drop)]
-pub enum Step {
+pub(crate) enum Step {
     /// A node begins.
     Begin(u32),
     /// A completion goes to the last frame.
@@ -37,7 +37,7 @@ pub enum Step {
 
 /// A value is given.
 #[inline(always)]
-pub fn give(value: Value) -> Step
+pub(crate) fn give(value: Value) -> Step
     ensures { result ≡ Step.Give (Completion.Normal value) }
 {
     Step::Give(Completion::Normal(value))
@@ -45,7 +45,7 @@ pub fn give(value: Value) -> Step
 
 /// A statement completes.
 #[inline(always)]
-pub fn leave() -> Step
+pub(crate) fn leave() -> Step
     ensures { result ≡ Step.Give (Completion.Normal Value.Undefined) }
 {
     give(Value::Undefined)
@@ -53,7 +53,7 @@ pub fn leave() -> Step
 
 /// A value of the wrong kind.
 #[inline(never)]
-pub fn mistyped(line: u32) -> Step
+pub(crate) fn mistyped(line: u32) -> Step
     ensures { result ≡ Step.Fail fault.Mistyped line }
 {
     Step::Fail(Fault::Mistyped, line)
@@ -61,7 +61,7 @@ pub fn mistyped(line: u32) -> Step
 
 /// What an operator answers.
 #[inline(always)]
-pub fn answered(answer: Result<Value, OpFault>, line: u32) -> Result<Step, Memory>
+pub(crate) fn answered(answer: Result<Value, OpFault>, line: u32) -> Result<Step, Memory>
     ensures { (a : Answer) → AnswersAs a answer → IfOk result (Becomes (λ g. answered line a)) }
 {
     match answer {
@@ -72,7 +72,7 @@ pub fn answered(answer: Result<Value, OpFault>, line: u32) -> Result<Step, Memor
 
 /// What a fault of an operator becomes.
 #[inline(never)]
-pub fn failed(fault: OpFault, line: u32) -> Result<Step, Memory>
+pub(crate) fn failed(fault: OpFault, line: u32) -> Result<Step, Memory>
     ensures { FailsAs fault line result }
 {
     match fault {

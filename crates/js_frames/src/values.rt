@@ -12,7 +12,7 @@ use std::marker::Model;
 use std::mem;
 
 /// Values in order. Contracts see the list of their plain forms.
-pub struct Values {
+pub(crate) struct Values {
     items: Vec<Value>,
 }
 
@@ -39,7 +39,7 @@ impl Model for Values {
 
 impl Values {
     /// No values.
-    pub fn new(alloc: Global) -> Values
+    pub(crate) fn new(alloc: Global) -> Values
         ensures { result ≡ [] }
     {
         Values {
@@ -48,7 +48,7 @@ impl Values {
     }
 
     /// No values, with room for this many.
-    pub fn with_capacity(alloc: Global, count: usize) -> Result<Values, Memory>
+    pub(crate) fn with_capacity(alloc: Global, count: usize) -> Result<Values, Memory>
         ensures { IfOk result (λ values. values ≡ []) }
     {
         let items = Vec::with_capacity(alloc, count)?;
@@ -56,21 +56,21 @@ impl Values {
     }
 
     /// How many there are.
-    pub fn len(&self) -> usize
+    pub(crate) fn len(&self) -> usize
         ensures { result ≡ length self.now }
     {
         self.items.len()
     }
 
     /// The values, in order.
-    pub fn as_slice(&self) -> &[Value]
+    pub(crate) fn as_slice(&self) -> &[Value]
         ensures { map plain_value result.now ≡ self.now }
     {
         self.items.as_slice()
     }
 
     /// The values, given back.
-    pub fn into_vec(self) -> Vec<Value>
+    pub(crate) fn into_vec(self) -> Vec<Value>
         ensures { map plain_value result.items ≡ self }
     {
         let Values { items } = self;
@@ -78,7 +78,7 @@ impl Values {
     }
 
     /// One more value.
-    pub fn push(&mut self, value: Value) -> Result<(), Memory>
+    pub(crate) fn push(&mut self, value: Value) -> Result<(), Memory>
         ensures { OnOk result (self.new ≡ self.old ++ plain_value value ∷ []) }
     {
         self.items.push(value)?;
@@ -86,7 +86,7 @@ impl Values {
     }
 
     /// The value at a place, with undefined left in its place.
-    pub fn put_out(&mut self, place: usize) -> Value
+    pub(crate) fn put_out(&mut self, place: usize) -> Value
         requires { place < length self.old }
         ensures value { Some (plain_value result) ≡ slice_get self.old place }
         ensures rest { self.new ≡ slice_set self.old place undefined }
@@ -95,7 +95,7 @@ impl Values {
     }
 
     /// The value at a place, or undefined; it and those after it are dropped.
-    pub fn take(&mut self, place: usize) -> Value
+    pub(crate) fn take(&mut self, place: usize) -> Value
         ensures value { plain_value result ≡ argument place self.old }
         ensures rest { self.new ≡ take place self.old }
     {
@@ -108,7 +108,7 @@ impl Values {
     }
 
     /// The first value, or undefined; the others stay.
-    pub fn take_first(&mut self) -> Value
+    pub(crate) fn take_first(&mut self) -> Value
         ensures value { plain_value result ≡ argument 0 self.old }
         ensures rest { self.new ≡ drop 1 self.old }
     {
@@ -119,14 +119,14 @@ impl Values {
     }
 
     /// At most this many values: further ones are dropped.
-    pub fn cut(&mut self, count: usize)
+    pub(crate) fn cut(&mut self, count: usize)
         ensures { self.new ≡ take count self.old }
     {
         self.items.truncate(count);
     }
 
     /// As many values as asked for: further ones are dropped, and missing ones are undefined.
-    pub fn pad(&mut self, count: usize) -> Result<(), Memory>
+    pub(crate) fn pad(&mut self, count: usize) -> Result<(), Memory>
         ensures { OnOk result (self.new ≡ padded count self.old) }
     {
         self.cut(count);
@@ -139,7 +139,7 @@ impl Values {
 
 /// The number at a place of a list.
 #[inline(always)]
-pub fn number_at(numbers: &[u32], place: usize) -> Option<u32>
+pub(crate) fn number_at(numbers: &[u32], place: usize) -> Option<u32>
     ensures value { result ≡ slice_get numbers.now place }
     ensures room { IfSome result (λ _. place + 1 < 2 ^ 64) }
 {
@@ -147,7 +147,7 @@ pub fn number_at(numbers: &[u32], place: usize) -> Option<u32>
 }
 
 /// The value at a place of a list.
-pub fn item_at(items: &Items, place: usize) -> Option<&Value>
+pub(crate) fn item_at(items: &Items, place: usize) -> Option<&Value>
     ensures value { option_map (λ v. plain_value v.now) result
         ≡ slice_get (values_in items.now) place }
     ensures room { IfSome result (λ _. place + 1 < 2 ^ 64) }

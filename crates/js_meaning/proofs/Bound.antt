@@ -10,9 +10,9 @@ use Rattle.js_meaning.specs.State.{Setting, State, Completion, normal, broke, co
 use Rattle.js_meaning.specs.Variables.{set_variable}
 use Rattle.js_meaning.specs.Calls.{after_call}
 use Rattle.js_meaning.specs.Forms.{asks}
-use Rattle.js_meaning.specs.Statements.{after_turn, perhaps, one_turn, turns}
-use Rattle.js_meaning.specs.Meaning.{does_node, begins_with, begins, within, allowed, eval, turns_of}
-use Rattle.js_meaning.proofs.Walk.{Ways, bind, either, leaves_walk, tests_walk, perhaps_walk, one_turn_walk, node_walk}
+use Rattle.js_meaning.specs.Statements.{after_iteration, perhaps, one_iteration, iterations}
+use Rattle.js_meaning.specs.Meaning.{does_node, begins_with, begins, within, allowed, eval, iterations_of}
+use Rattle.js_meaning.proofs.Walk.{Ways, bind, either, leaves_walk, tests_walk, perhaps_walk, one_iteration_walk, node_walk}
 
 -- no more nodes are allowed than m
 abbrev Few : ℕ → ℕ → Outcome → Type 0
@@ -59,20 +59,20 @@ binds {b} {m} {o} {o'} c c' a h =
     let r = bind_self b m o c c' a.few h in
     record { same = r.same ∙ ap (λ x. x >>= c') a.same; few = r.few }
 
-turn_self : (b m : ℕ) (o : Outcome) (c c' : State → Outcome) → Few b m o → Agreeing b m c c' → Agree b m (after_turn o c) (after_turn o c')
-turn_self b m (went (normal x) s) c c' few h = h.at s few
-turn_self b m (went broke s) c c' few h = done _ few
-turn_self b m (went continued s) c c' few h = h.at s few
-turn_self b m (went (returned x) s) c c' few h = done _ few
-turn_self b m (broken x line l) c c' few h = done _ few
-turn_self b m (violated text l) c c' few h = done _ few
-turn_self b m (spent l) c c' few h = done _ few
-turn_self b m (stopped x y line l) c c' few h = done _ few
+iteration_self : (b m : ℕ) (o : Outcome) (c c' : State → Outcome) → Few b m o → Agreeing b m c c' → Agree b m (after_iteration o c) (after_iteration o c')
+iteration_self b m (went (normal x) s) c c' few h = h.at s few
+iteration_self b m (went broke s) c c' few h = done _ few
+iteration_self b m (went continued s) c c' few h = h.at s few
+iteration_self b m (went (returned x) s) c c' few h = done _ few
+iteration_self b m (broken x line l) c c' few h = done _ few
+iteration_self b m (violated text l) c c' few h = done _ few
+iteration_self b m (spent l) c c' few h = done _ few
+iteration_self b m (stopped x y line l) c c' few h = done _ few
 
-turns_on : {b m : ℕ} {o o' : Outcome} (c c' : State → Outcome) → Agree b m o o' → Agreeing b m c c' → Agree b m (after_turn o c) (after_turn o' c')
-turns_on {b} {m} {o} {o'} c c' a h =
-    let r = turn_self b m o c c' a.few h in
-    record { same = r.same ∙ ap (λ x. after_turn x c') a.same; few = r.few }
+iterates_on : {b m : ℕ} {o o' : Outcome} (c c' : State → Outcome) → Agree b m o o' → Agreeing b m c c' → Agree b m (after_iteration o c) (after_iteration o' c')
+iterates_on {b} {m} {o} {o'} c c' a h =
+    let r = iteration_self b m o c c' a.few h in
+    record { same = r.same ∙ ap (λ x. after_iteration x c') a.same; few = r.few }
 
 call_few : (b m : ℕ) (slots : List (Option PlainValue)) (n : ℕ) (o : Outcome) → Few b m o → Few b m (after_call slots n o)
 call_few b m slots n (went c s) few = few
@@ -106,11 +106,11 @@ agreeing_ways g m = record {
   declaring = λ x y. record { at = declared_few g.budget m x y };
   looking = λ f f' h. record { at = λ s le. (h s.slots s.constants s.calls).at s le };
   binding = λ f f' c c' a h. record { at = λ s le. binds c c' (a.at s le) h };
-  turning = λ f f' c c' a h. record { at = λ s le. turns_on c c' (a.at s le) h };
+  iterating = λ f f' c c' a h. record { at = λ s le. iterates_on c c' (a.at s le) h };
   entering = λ slots n f f' h. record { at = λ s le. calls_back s.slots s.calls (h.at (record s { slots = slots; calls = n }) le) };
 }
 
--- ---- parts and turns
+-- ---- parts and iterations
 
 -- two ways to evaluate parts agree where no more nodes are allowed than m, and each begins a node
 record Evs (b m : ℕ) (ev ev' : ℕ → State → Outcome) : Type 0 where
@@ -121,34 +121,34 @@ record Evs (b m : ℕ) (ev ev' : ℕ → State → Outcome) : Type 0 where
 parts : {b m : ℕ} {ev ev' : ℕ → State → Outcome} → Evs b m ev ev' → (k : ℕ) → k ≤ m → (n : ℕ) → Agreeing b k (ev n) (ev' n)
 parts h k le n = record { at = λ s few. more (omega arith) (h.agree k n s le few) }
 
--- no turn begins where no node does
-dry_turns : (way : ℕ → State → Outcome) (k : ℕ) (test : Option ℕ) (body : ℕ) (next : Option ℕ) (s : State) → ((n : ℕ) → way n s ≡ spends s) → turns way k test body next s ≡ spends s
-dry_turns way zero test body next s dry = refl
-dry_turns way (suc k) None body next s dry = ap (λ o. after_turn o (λ later. perhaps way next later >>= λ _. turns way k None body next)) (dry body)
-dry_turns way (suc k) (Some test) body next s dry =
-    ap (λ o. o >>= λ x. cond (is_truthy x) (λ now. after_turn (way body now) (λ later. perhaps way next later >>= λ _. turns way k (Some test) body next)) leaves) (dry test)
+-- no iteration begins where no node does
+dry_iterations : (way : ℕ → State → Outcome) (k : ℕ) (test : Option ℕ) (body : ℕ) (next : Option ℕ) (s : State) → ((n : ℕ) → way n s ≡ spends s) → iterations way k test body next s ≡ spends s
+dry_iterations way zero test body next s dry = refl
+dry_iterations way (suc k) None body next s dry = ap (λ o. after_iteration o (λ later. perhaps way next later >>= λ _. iterations way k None body next)) (dry body)
+dry_iterations way (suc k) (Some test) body next s dry =
+    ap (λ o. o >>= λ x. cond (is_truthy x) (λ now. after_iteration (way body now) (λ later. perhaps way next later >>= λ _. iterations way k (Some test) body next)) leaves) (dry test)
 
 module _ (g : Setting) (m : ℕ) (ev ev' : ℕ → State → Outcome) (h : Evs g.budget m ev ev') where
   -- a body begins a node, so after it one less is allowed
-  turn_agrees : (k : ℕ) → suc k ≤ m → (test : Option ℕ) (body : ℕ) (next : Option ℕ) (again again' : State → Outcome) → Agreeing g.budget k again again' → Agreeing g.budget (suc k) (one_turn ev test body next again) (one_turn ev' test body next again')
-  turn_agrees k le test body next again again' a =
+  iteration_agrees : (k : ℕ) → suc k ≤ m → (test : Option ℕ) (body : ℕ) (next : Option ℕ) (again again' : State → Outcome) → Agreeing g.budget k again again' → Agreeing g.budget (suc k) (one_iteration ev test body next again) (one_iteration ev' test body next again')
+  iteration_agrees k le test body next again again' a =
       bind g (Agreeing g.budget (suc k)) (agreeing_ways g (suc k)) _ _ (tests_walk g (Agreeing g.budget (suc k)) (agreeing_ways g (suc k)) ev ev' (parts h (suc k) le) test)
       (λ x. either g (Agreeing g.budget (suc k)) (agreeing_ways g (suc k)) (is_truthy x) body_and_next (leaves_walk g (Agreeing g.budget (suc k)) (agreeing_ways g (suc k))))
     where
       behind : Agreeing g.budget k (λ later. perhaps ev next later >>= λ _. again) (λ later. perhaps ev' next later >>= λ _. again')
       behind = bind g (Agreeing g.budget k) (agreeing_ways g k) _ _ (perhaps_walk g (Agreeing g.budget k) (agreeing_ways g k) ev ev' (parts h k (omega arith)) next) (λ _. a)
 
-      body_and_next : Agreeing g.budget (suc k) (λ now. after_turn (ev body now) (λ later. perhaps ev next later >>= λ _. again)) (λ now. after_turn (ev' body now) (λ later. perhaps ev' next later >>= λ _. again'))
-      body_and_next = record { at = λ s few. more (omega arith) (turns_on _ _ (more (omega arith) (h.agree (suc k) body s le few)) behind) }
+      body_and_next : Agreeing g.budget (suc k) (λ now. after_iteration (ev body now) (λ later. perhaps ev next later >>= λ _. again)) (λ now. after_iteration (ev' body now) (λ later. perhaps ev' next later >>= λ _. again'))
+      body_and_next = record { at = λ s few. more (omega arith) (iterates_on _ _ (more (omega arith) (h.agree (suc k) body s le few)) behind) }
 
-  turns_agree : (test : Option ℕ) (body : ℕ) (next : Option ℕ) (k n n' : ℕ) → k ≤ n → k ≤ n' → k ≤ m → Agreeing g.budget k (turns ev n test body next) (turns ev' n' test body next)
-  turns_agree test body next zero n n' le le' lm = record {
-    at = λ s few. both_spent s (dry_turns ev n test body next s (λ i. h.dry i s (omega arith))) (dry_turns ev' n' test body next s (λ i. h.dry' i s (omega arith)));
+  iterations_agree : (test : Option ℕ) (body : ℕ) (next : Option ℕ) (k n n' : ℕ) → k ≤ n → k ≤ n' → k ≤ m → Agreeing g.budget k (iterations ev n test body next) (iterations ev' n' test body next)
+  iterations_agree test body next zero n n' le le' lm = record {
+    at = λ s few. both_spent s (dry_iterations ev n test body next s (λ i. h.dry i s (omega arith))) (dry_iterations ev' n' test body next s (λ i. h.dry' i s (omega arith)));
   }
-  turns_agree test body next (suc k) zero n' le le' lm = absurd (omega arith)
-  turns_agree test body next (suc k) (suc n) zero le le' lm = absurd (omega arith)
-  turns_agree test body next (suc k) (suc n) (suc n') le le' lm =
-      turn_agrees k lm test body next (turns ev n test body next) (turns ev' n' test body next) (turns_agree test body next k n n' (omega arith) (omega arith) (omega arith))
+  iterations_agree test body next (suc k) zero n' le le' lm = absurd (omega arith)
+  iterations_agree test body next (suc k) (suc n) zero le le' lm = absurd (omega arith)
+  iterations_agree test body next (suc k) (suc n) (suc n') le le' lm =
+      iteration_agrees k lm test body next (iterations ev n test body next) (iterations ev' n' test body next) (iterations_agree test body next k n n' (omega arith) (omega arith) (omega arith))
 
 -- ---- the knot
 
@@ -158,7 +158,7 @@ unfolding within
 within_dry g zero n s e = refl
 within_dry g (suc k) n s e =
     let none : s.fuel ≡ 0 = omega arith in
-    ap (λ f. begins_with f (does_node g (within g k) (turns (within g k) k) (slice_get g.base.program.nodes n)) s) none
+    ap (λ f. begins_with f (does_node g (within g k) (iterations (within g k) k) (slice_get g.base.program.nodes n)) s) none
 
 -- what begins with fuel
 begins_agree : (b m f : ℕ) (go go' : State → Outcome) (s : State) → s.fuel ≡ f → Agreeing b m go go' → allowed b s ≤ suc m → Agree b m (begins_with f go s) (begins_with f go' s)
@@ -183,8 +183,8 @@ within_agree g (suc top) (suc m) (suc k) (suc k') lt le le' n s l =
       dry' = within_dry g k';
     } in
     more (omega arith) (begins_agree g.budget m s.fuel _ _ s refl
-    (node_agrees g m (within g k) (within g k') (turns (within g k) k) (turns (within g k') k') evs
-    (λ test body next. turns_agree g m (within g k) (within g k') evs test body next m k k' (omega arith) (omega arith) (omega arith))
+    (node_agrees g m (within g k) (within g k') (iterations (within g k) k) (iterations (within g k') k') evs
+    (λ test body next. iterations_agree g m (within g k) (within g k') evs test body next m k k' (omega arith) (omega arith) (omega arith))
     (slice_get g.base.program.nodes n)) l)
 
 -- a bound that is large enough serves
@@ -208,31 +208,31 @@ evs g m = record {
   dry' = λ n s e. within_dry g (allowed g.budget s) n s e;
 }
 
-turns_of_agree : (g : Setting) (m k : ℕ) (ev : ℕ → State → Outcome) → Evs g.budget m ev (eval g) → (test : Option ℕ) (body : ℕ) (next : Option ℕ) → m ≤ k → Agreeing g.budget m (turns ev k test body next) (turns_of g test body next)
-unfolding turns_of
-turns_of_agree g m k ev h test body next le = record {
-  at = λ s few. more few ((turns_agree g m ev (eval g) h test body next (allowed g.budget s) k (allowed g.budget s) (omega arith) (omega arith) few).at s (omega arith));
+iterations_of_agree : (g : Setting) (m k : ℕ) (ev : ℕ → State → Outcome) → Evs g.budget m ev (eval g) → (test : Option ℕ) (body : ℕ) (next : Option ℕ) → m ≤ k → Agreeing g.budget m (iterations ev k test body next) (iterations_of g test body next)
+unfolding iterations_of
+iterations_of_agree g m k ev h test body next le = record {
+  at = λ s few. more few ((iterations_agree g m ev (eval g) h test body next (allowed g.budget s) k (allowed g.budget s) (omega arith) (omega arith) few).at s (omega arith));
 }
 
 -- the equation of `eval`
-pub eval_begins : (g : Setting) (n : ℕ) (s : State) → eval g n s ≡ begins (does_node g (eval g) (turns_of g) (slice_get g.base.program.nodes n)) s
+pub eval_begins : (g : Setting) (n : ℕ) (s : State) → eval g n s ≡ begins (does_node g (eval g) (iterations_of g) (slice_get g.base.program.nodes n)) s
 unfolding within
 eval_begins g n s =
     let m : ℕ = allowed g.budget s in
     let h : Evs g.budget m (within g m) (eval g) = within_evs g m m (omega arith) in
     sym (enough g (suc m) n s (omega arith))
     ∙ (begins_agree g.budget m s.fuel _ _ s refl
-    (node_agrees g m (within g m) (eval g) (turns (within g m) m) (turns_of g) h (λ test body next. turns_of_agree g m m (within g m) h test body next (omega arith)) (slice_get g.base.program.nodes n))
+    (node_agrees g m (within g m) (eval g) (iterations (within g m) m) (iterations_of g) h (λ test body next. iterations_of_agree g m m (within g m) h test body next (omega arith)) (slice_get g.base.program.nodes n))
     (omega arith)).same
 
--- the equation of `turns_of`
-pub turns_again : (g : Setting) (test : Option ℕ) (body : ℕ) (next : Option ℕ) (s : State) → turns_of g test body next s ≡ one_turn (eval g) test body next (turns_of g test body next) s
-turns_again g test body next s =
+-- the equation of `iterations_of`
+pub iterations_again : (g : Setting) (test : Option ℕ) (body : ℕ) (next : Option ℕ) (s : State) → iterations_of g test body next s ≡ one_iteration (eval g) test body next (iterations_of g test body next) s
+iterations_again g test body next s =
     let m : ℕ = allowed g.budget s in
     let h : Evs g.budget m (eval g) (eval g) = evs g m in
-    sym ((turns_of_agree g m (suc m) (eval g) h test body next (omega arith)).at s (omega arith)).same
-    ∙ ((one_turn_walk g (Agreeing g.budget m) (agreeing_ways g m) (eval g) (eval g) (parts h m (omega arith)) test body next (turns (eval g) m test body next) (turns_of g test body next)
-    (turns_of_agree g m m (eval g) h test body next (omega arith))).at s (omega arith)).same
+    sym ((iterations_of_agree g m (suc m) (eval g) h test body next (omega arith)).at s (omega arith)).same
+    ∙ ((one_iteration_walk g (Agreeing g.budget m) (agreeing_ways g m) (eval g) (eval g) (parts h m (omega arith)) test body next (iterations (eval g) m test body next) (iterations_of g test body next)
+    (iterations_of_agree g m m (eval g) h test body next (omega arith))).at s (omega arith)).same
 
 -- a completion leaves at least one node less
 pub went_fewer : (g : Setting) (n : ℕ) (s t : State) (c : Completion) → eval g n s ≡ went c t → allowed g.budget t ≤ allowed g.budget s - 1

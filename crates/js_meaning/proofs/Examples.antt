@@ -16,7 +16,7 @@ use Rattle.js_program.specs.declared.node.Variable.TheVariants.{Slot}
 use Rattle.js_program.specs.PlainProgram as p
 use Rattle.js_program.specs.PlainProgram.{PlainNode}
 use Rattle.js_meaning.specs.State.{Outcome, says, broken, spent}
-use Rattle.js_meaning.specs.Meaning.{within, eval, turns_of}
+use Rattle.js_meaning.specs.Meaning.{within, eval, iterations_of}
 use Rattle.js_meaning.specs.Bodies.{the_top, bare, evaluation}
 use Rattle.js_meaning.proofs.Small.{on, one, whole, slot, constant, given, body, statements, program, comes_to, ends, left}
 
@@ -84,17 +84,17 @@ too_deep = refl
 
 -- ---- variables
 
--- for (let i = 0; i < 2; i++) { if (i === 1) x; let x = 7 }: declared in the first turn, and not yet in
+-- for (let i = 0; i < 2; i++) { if (i === 1) x; let x = 7 }: declared in the first iteration, and not yet in
 -- the second
-pub early_in_the_second_turn : comes_to Thread 100
+pub early_in_the_second_iteration : comes_to Thread 100
     (whole 0 ∷ one (p.declaration Let (given 0 0 ∷ [])) ∷ slot 0 ∷ whole 2 ∷ one (p.binary op.Less 2 3) ∷ one (p.update Increment After 0)
     ∷ slot 0 ∷ whole 1 ∷ one (p.binary op.Same 6 7) ∷ on 3 (p.read (Slot 1)) ∷ on 3 (p.expression 9) ∷ one (p.if_alone 8 10)
     ∷ whole 7 ∷ one (p.declaration Let (given 1 12 ∷ [])) ∷ one (p.block (1 ∷ []) (11 ∷ 13 ∷ []))
     ∷ one (p.for_three (0 ∷ []) (Some 1) (Some 4) (Some 5) 14) ∷ [])
     (statements 2 (15 ∷ []) ∷ [])
     ≡ broken fault.Early 3 (left 76 [])
-unfolding evaluation eval within turns_of
-early_in_the_second_turn = refl
+unfolding evaluation eval within iterations_of
+early_in_the_second_iteration = refl
 
 -- let a = 1; let f = () => a; a = 2; return f(): the captured value is that of the making
 pub captures_are_copies : comes_to Thread 100

@@ -15,13 +15,13 @@ use Rattle.js_meaning.specs.State.{Ground, Setting, State, Completion, normal, b
 use Rattle.js_meaning.specs.Variables.{set_slot, set_variable}
 use Rattle.js_meaning.specs.Calls.{after_call}
 use Rattle.js_meaning.specs.Forms.{asks}
-use Rattle.js_meaning.specs.Statements.{after_turn, turns}
+use Rattle.js_meaning.specs.Statements.{after_iteration, iterations}
 use Rattle.js_meaning.specs.Meaning.{does_node, begins_with, within, allowed, eval}
 use Rattle.js_meaning.specs.Bodies.{Origin, function, mode_of, setting_of, start_of, evaluation}
 use Rattle.js_meaning.specs.Later.{Later, Beyond, Follows}
 use Rattle.js_meaning.specs.Modes.{acts, OnlyAnswers, StandsOnGround}
 use Rattle.js_meaning.proofs.Later.{later_refl, same_beyond, later_trans, beyond_trans, set_later, declared_later, added_later, begun_later, spent_beyond, replied_later, returned_later, in_body_beyond}
-use Rattle.js_meaning.proofs.Walk.{Ways, one_turn_walk, node_walk, body_walk}
+use Rattle.js_meaning.proofs.Walk.{Ways, one_iteration_walk, node_walk, body_walk}
 
 -- a state that follows; where forms do not act, it has the same effects
 record On (g : Setting) (s t : State) : Type 0 where
@@ -91,15 +91,15 @@ bind_self g s (violated text e) c l h = done _ l
 bind_self g s (spent e) c l h = done _ l
 bind_self g s (stopped x y line e) c l h = done _ l
 
-turn_self : (g : Setting) (s : State) (o : Outcome) (c : State → Outcome) → Holds g s o → Sure g c c → Well g s (after_turn o c)
-turn_self g s (went (normal x) t) c l h = from l (h.at t)
-turn_self g s (went broke t) c l h = done _ l
-turn_self g s (went continued t) c l h = from l (h.at t)
-turn_self g s (went (returned x) t) c l h = done _ l
-turn_self g s (broken x line e) c l h = done _ l
-turn_self g s (violated text e) c l h = done _ l
-turn_self g s (spent e) c l h = done _ l
-turn_self g s (stopped x y line e) c l h = done _ l
+iteration_self : (g : Setting) (s : State) (o : Outcome) (c : State → Outcome) → Holds g s o → Sure g c c → Well g s (after_iteration o c)
+iteration_self g s (went (normal x) t) c l h = from l (h.at t)
+iteration_self g s (went broke t) c l h = done _ l
+iteration_self g s (went continued t) c l h = from l (h.at t)
+iteration_self g s (went (returned x) t) c l h = done _ l
+iteration_self g s (broken x line e) c l h = done _ l
+iteration_self g s (violated text e) c l h = done _ l
+iteration_self g s (spent e) c l h = done _ l
+iteration_self g s (stopped x y line e) c l h = done _ l
 
 call_self : (g : Setting) (s : State) (slots : List (Option PlainValue)) (n : ℕ) (o : Outcome) → Holds g (record s { slots = slots; calls = n }) o → Well g s (after_call s.slots s.calls o)
 call_self g s slots n (went c t) l = done _ (record { later = returned_later g.budget s slots n t l.later; kept = l.kept })
@@ -130,7 +130,7 @@ sure_ways g = record {
   declaring = λ x y. record { at = λ s. done _ (record { later = declared_later g.budget x y s; kept = λ _. same_effects x y s }) };
   looking = λ f f' h. record { at = λ s. (h s.slots s.constants s.calls).at s };
   binding = λ f f' c c' a h. record { at = λ s. bind_self g s (f' s) c' (a.at s).holds (λ x. sure_once (h x)) };
-  turning = λ f f' c c' a h. record { at = λ s. turn_self g s (f' s) c' (a.at s).holds (sure_once h) };
+  iterating = λ f f' c c' a h. record { at = λ s. iteration_self g s (f' s) c' (a.at s).holds (sure_once h) };
   entering = λ slots n f f' h. record { at = λ s. call_self g s slots n (f' (record s { slots = slots; calls = n })) (h.at (record s { slots = slots; calls = n })).holds };
 }
   where
@@ -140,9 +140,9 @@ sure_ways g = record {
 
 -- ---- the knot
 
-pub turns_sure : (g : Setting) (ev : ℕ → State → Outcome) → ((n : ℕ) → Sure g (ev n) (ev n)) → (k : ℕ) (test : Option ℕ) (body : ℕ) (next : Option ℕ) → Sure g (turns ev k test body next) (turns ev k test body next)
-turns_sure g ev h zero test body next = record { at = spends_well g }
-turns_sure g ev h (suc k) test body next = one_turn_walk g (Sure g) (sure_ways g) ev ev h test body next _ _ (turns_sure g ev h k test body next)
+pub iterations_sure : (g : Setting) (ev : ℕ → State → Outcome) → ((n : ℕ) → Sure g (ev n) (ev n)) → (k : ℕ) (test : Option ℕ) (body : ℕ) (next : Option ℕ) → Sure g (iterations ev k test body next) (iterations ev k test body next)
+iterations_sure g ev h zero test body next = record { at = spends_well g }
+iterations_sure g ev h (suc k) test body next = one_iteration_walk g (Sure g) (sure_ways g) ev ev h test body next _ _ (iterations_sure g ev h k test body next)
 
 begins_well : (g : Setting) (fuel : ℕ) (go : State → Outcome) (s : State) → s.fuel ≡ fuel → Sure g go go → Well g s (begins_with fuel go s)
 begins_well g zero go s is h = spends_well g s
@@ -152,9 +152,9 @@ pub within_sure : (g : Setting) (k n : ℕ) → Sure g (within g k n) (within g 
 unfolding within
 within_sure g zero n = record { at = spends_well g }
 within_sure g (suc k) n = record {
-  at = λ s. begins_well g s.fuel (does_node g (within g k) (turns (within g k) k) (slice_get g.base.program.nodes n)) s refl
-      (node_walk g (Sure g) (sure_ways g) (within g k) (within g k) (within_sure g k) (turns (within g k) k) (turns (within g k) k)
-      (turns_sure g (within g k) (within_sure g k) k) (slice_get g.base.program.nodes n));
+  at = λ s. begins_well g s.fuel (does_node g (within g k) (iterations (within g k) k) (slice_get g.base.program.nodes n)) s refl
+      (node_walk g (Sure g) (sure_ways g) (within g k) (within g k) (within_sure g k) (iterations (within g k) k) (iterations (within g k) k)
+      (iterations_sure g (within g k) (within_sure g k) k) (slice_get g.base.program.nodes n));
 }
 
 eval_well : (g : Setting) (n : ℕ) (s : State) → Well g s (eval g n s)

@@ -17,7 +17,7 @@ use Rattle.js_program.specs.declared.node.Variable.TheVariants.{Slot}
 use Rattle.js_program.specs.Builtins.{has_effect_in}
 use Rattle.js_program.specs.PlainProgram as p
 use Rattle.js_meaning.specs.State.{Outcome, says, enqueues, registers, handles, broken, violated, stopped}
-use Rattle.js_meaning.specs.Meaning.{within, eval, turns_of}
+use Rattle.js_meaning.specs.Meaning.{within, eval, iterations_of}
 use Rattle.js_meaning.specs.Bodies.{function, evaluation}
 use Rattle.js_meaning.proofs.Small.{on, one, whole, slot, given, body, statements, of_functions, comes_to, ends, left}
 
@@ -43,7 +43,7 @@ pub break_and_continue : comes_to Thread 200
     ∷ one (p.for_three (0 ∷ []) (Some 1) (Some 4) (Some 5) 21) ∷ [])
     (statements 1 (22 ∷ []) ∷ [])
     ≡ ends v.undefined 140 (says (codes "0") ∷ says (codes "2") ∷ [])
-unfolding evaluation eval within turns_of digits
+unfolding evaluation eval within iterations_of digits
 break_and_continue = refl
 
 -- for (const x of ["a", "b", "c"]) { if (x === "b") return x; }
@@ -221,7 +221,7 @@ pub while_goes_on_and_breaks : comes_to Thread 100
     ∷ slot 0 ∷ one (p.builtin form.LogInfo (15 ∷ [])) ∷ one (p.expression 16) ∷ one (p.block [] (4 ∷ 9 ∷ 14 ∷ 17 ∷ [])) ∷ one (p.while_of 2 18) ∷ [])
     (statements 1 (1 ∷ 19 ∷ []) ∷ [])
     ≡ ends v.undefined 45 (says (codes "1") ∷ says (codes "3") ∷ [])
-unfolding evaluation eval within turns_of digits
+unfolding evaluation eval within iterations_of digits
 while_goes_on_and_breaks = refl
 
 -- a `break` that stands in no loop ends its body with undefined
@@ -239,7 +239,7 @@ short_circuits = refl
 
 -- for (;;) break: an absent test is true
 pub absent_test : comes_to Thread 100 (one p.break_of ∷ one (p.for_three [] None None None 0) ∷ whole 7 ∷ one (p.return_of 2) ∷ []) (statements 0 (1 ∷ 3 ∷ []) ∷ []) ≡ ends (v.whole (pos 7)) 96 []
-unfolding evaluation eval within turns_of
+unfolding evaluation eval within iterations_of
 absent_test = refl
 
 -- [7].forEach((x, i, xs) => bp.log.info(xs)): the third argument is the list
@@ -250,7 +250,7 @@ pub for_each_gives_the_list : comes_to Thread 100
 unfolding evaluation eval within digits
 for_each_gives_the_list = refl
 
--- ---- what is not declared yet in a second turn
+-- ---- what is not declared yet in a second iteration
 
 -- for (const k of [0, 1]) for (let i = k && i; 0;) ;   (the second i on line 2)
 pub head_of_a_for : comes_to Thread 100
@@ -258,7 +258,7 @@ pub head_of_a_for : comes_to Thread 100
     ∷ whole 0 ∷ one p.empty ∷ one (p.for_three (1 ∷ []) (Some 6) (Some 7) None 8) ∷ one (p.for_of 0 2 9) ∷ [])
     (statements 2 (10 ∷ []) ∷ [])
     ≡ broken fault.Early 2 (left 86 [])
-unfolding evaluation eval within turns_of
+unfolding evaluation eval within iterations_of
 head_of_a_for = refl
 
 -- for (const k of [0, 1]) for (const x of k ? x : [5]) ;   (the second x on line 2)
@@ -337,7 +337,7 @@ floor_after_its_arguments = refl
 pub bare_return : comes_to Thread 100
     (one (p.truth true) ∷ one p.return_nothing ∷ one (p.while_of 0 1) ∷ whole 7 ∷ one (p.return_of 3) ∷ []) (statements 0 (2 ∷ 4 ∷ []) ∷ [])
     ≡ ends v.undefined 97 []
-unfolding evaluation eval within turns_of
+unfolding evaluation eval within iterations_of
 bare_return = refl
 
 -- let a = 5; then bp.registerBThread("n", () => a), or bp.setInterruptHandler(() => a): the function
@@ -365,7 +365,7 @@ pub for_each_with_captured : comes_to Thread 100
 unfolding evaluation eval within digits
 for_each_with_captured = refl
 
--- for (const k of [0, 1]) { k && x; let y = 1, x = 1 }: in the second turn neither is declared yet (x
+-- for (const k of [0, 1]) { k && x; let y = 1, x = 1 }: in the second iteration neither is declared yet (x
 -- stands on line 2)
 pub second_of_a_block : comes_to Thread 100
     (whole 0 ∷ whole 1 ∷ one (p.list (0 ∷ 1 ∷ [])) ∷ slot 0 ∷ on 2 (p.read (Slot 2)) ∷ one (p.binary op.And 3 4) ∷ one (p.expression 5)

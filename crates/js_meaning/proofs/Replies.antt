@@ -11,12 +11,12 @@ use Rattle.js_meaning.specs.State.{Ground, Setting, Effect, State, normal, broke
 use Rattle.js_meaning.specs.Variables.{set_variable}
 use Rattle.js_meaning.specs.Calls.{after_call}
 use Rattle.js_meaning.specs.Forms.{asks}
-use Rattle.js_meaning.specs.Statements.{after_turn, turns}
+use Rattle.js_meaning.specs.Statements.{after_iteration, iterations}
 use Rattle.js_meaning.specs.Meaning.{does_node, begins_with, within, allowed, eval}
 use Rattle.js_meaning.specs.Bodies.{Origin, setting_of, start_of, evaluation}
 use Rattle.js_meaning.specs.Replies.{with_more, TookAll, Behind, GoesOn}
 use Rattle.js_meaning.proofs.Later.{none_later}
-use Rattle.js_meaning.proofs.Walk.{Ways, one_turn_walk, node_walk, body_walk}
+use Rattle.js_meaning.proofs.Walk.{Ways, one_iteration_walk, node_walk, body_walk}
 use Rattle.js_meaning.proofs.Following.{Well, Sure, sure_ways, within_sure, eval_sure, left_follows, later_of}
 use Rattle.js_meaning.proofs.Bound.{enough}
 
@@ -62,25 +62,25 @@ module _ (g : Setting) (more : List PlainEvent) where
   bind_goes (spent l) o' c c' h e = ap (λ r. r >>= c') e
   bind_goes (stopped x y line l) o' c c' h e = bind_behind l.effects o' c c' (λ z. (h z).sure) e
 
-  turn_behind : (es : List Effect) (o : Outcome) (c c' : State → Outcome) → Sure g c c' → Behind more es o → Behind more es (after_turn o c')
-  turn_behind es (went (normal x) s) c c' h b = onward es s (c' s) (h.at s) b.added b.effects_are b.delivered b.took_all
-  turn_behind es (went broke s) c c' h b = record { added = b.added; effects_are = b.effects_are; delivered = b.delivered; took_all = b.took_all }
-  turn_behind es (went continued s) c c' h b = onward es s (c' s) (h.at s) b.added b.effects_are b.delivered b.took_all
-  turn_behind es (went (returned x) s) c c' h b = b
-  turn_behind es (broken f line l) c c' h b = b
-  turn_behind es (violated text l) c c' h b = b
-  turn_behind es (spent l) c c' h b = b
-  turn_behind es (stopped x y line l) c c' h b = b
+  iteration_behind : (es : List Effect) (o : Outcome) (c c' : State → Outcome) → Sure g c c' → Behind more es o → Behind more es (after_iteration o c')
+  iteration_behind es (went (normal x) s) c c' h b = onward es s (c' s) (h.at s) b.added b.effects_are b.delivered b.took_all
+  iteration_behind es (went broke s) c c' h b = record { added = b.added; effects_are = b.effects_are; delivered = b.delivered; took_all = b.took_all }
+  iteration_behind es (went continued s) c c' h b = onward es s (c' s) (h.at s) b.added b.effects_are b.delivered b.took_all
+  iteration_behind es (went (returned x) s) c c' h b = b
+  iteration_behind es (broken f line l) c c' h b = b
+  iteration_behind es (violated text l) c c' h b = b
+  iteration_behind es (spent l) c c' h b = b
+  iteration_behind es (stopped x y line l) c c' h b = b
 
-  turn_goes : (o o' : Outcome) (c c' : State → Outcome) → Way c c' → GoesOn more o o' → GoesOn more (after_turn o c) (after_turn o' c')
-  turn_goes (went (normal x) s) o' c c' h e = subst (λ r. GoesOn more (c s) (after_turn r c')) (sym e) (h.goes s)
-  turn_goes (went broke s) o' c c' h e = ap (λ r. after_turn r c') e
-  turn_goes (went continued s) o' c c' h e = subst (λ r. GoesOn more (c s) (after_turn r c')) (sym e) (h.goes s)
-  turn_goes (went (returned x) s) o' c c' h e = ap (λ r. after_turn r c') e
-  turn_goes (broken f line l) o' c c' h e = ap (λ r. after_turn r c') e
-  turn_goes (violated text l) o' c c' h e = ap (λ r. after_turn r c') e
-  turn_goes (spent l) o' c c' h e = ap (λ r. after_turn r c') e
-  turn_goes (stopped x y line l) o' c c' h e = turn_behind l.effects o' c c' h.sure e
+  iteration_goes : (o o' : Outcome) (c c' : State → Outcome) → Way c c' → GoesOn more o o' → GoesOn more (after_iteration o c) (after_iteration o' c')
+  iteration_goes (went (normal x) s) o' c c' h e = subst (λ r. GoesOn more (c s) (after_iteration r c')) (sym e) (h.goes s)
+  iteration_goes (went broke s) o' c c' h e = ap (λ r. after_iteration r c') e
+  iteration_goes (went continued s) o' c c' h e = subst (λ r. GoesOn more (c s) (after_iteration r c')) (sym e) (h.goes s)
+  iteration_goes (went (returned x) s) o' c c' h e = ap (λ r. after_iteration r c') e
+  iteration_goes (broken f line l) o' c c' h e = ap (λ r. after_iteration r c') e
+  iteration_goes (violated text l) o' c c' h e = ap (λ r. after_iteration r c') e
+  iteration_goes (spent l) o' c c' h e = ap (λ r. after_iteration r c') e
+  iteration_goes (stopped x y line l) o' c c' h e = iteration_behind l.effects o' c c' h.sure e
 
   call_behind : (es : List Effect) (slots : List (Option PlainValue)) (n : ℕ) (o : Outcome) → Behind more es o → Behind more es (after_call slots n o)
   call_behind es slots n (went c s) b = record { added = b.added; effects_are = b.effects_are; delivered = b.delivered; took_all = b.took_all }
@@ -122,16 +122,16 @@ module _ (g : Setting) (more : List PlainEvent) where
     declaring = λ x y. record { goes = declared_goes x y; sure = (sure_ways g).declaring x y };
     looking = λ f f' h. record { goes = λ s. (h s.slots s.constants s.calls).goes s; sure = (sure_ways g).looking f f' (λ slots constants n. (h slots constants n).sure) };
     binding = λ f f' c c' a h. record { goes = λ s. bind_goes (f s) (f' (with_more more s)) c c' h (a.goes s); sure = (sure_ways g).binding f f' c c' a.sure (λ x. (h x).sure) };
-    turning = λ f f' c c' a h. record { goes = λ s. turn_goes (f s) (f' (with_more more s)) c c' h (a.goes s); sure = (sure_ways g).turning f f' c c' a.sure h.sure };
+    iterating = λ f f' c c' a h. record { goes = λ s. iteration_goes (f s) (f' (with_more more s)) c c' h (a.goes s); sure = (sure_ways g).iterating f f' c c' a.sure h.sure };
     entering = λ slots n f f' h. record {
       goes = λ s. call_goes s.slots s.calls (f (record s { slots = slots; calls = n })) (f' (with_more more (record s { slots = slots; calls = n }))) (h.goes (record s { slots = slots; calls = n }));
       sure = (sure_ways g).entering slots n f f' h.sure;
     };
   }
 
-  turns_way : (ev : ℕ → State → Outcome) → ((n : ℕ) → Way (ev n) (ev n)) → (k : ℕ) (test : Option ℕ) (body : ℕ) (next : Option ℕ) → Way (turns ev k test body next) (turns ev k test body next)
-  turns_way ev h zero test body next = ways.spending
-  turns_way ev h (suc k) test body next = one_turn_walk g Way ways ev ev h test body next _ _ (turns_way ev h k test body next)
+  iterations_way : (ev : ℕ → State → Outcome) → ((n : ℕ) → Way (ev n) (ev n)) → (k : ℕ) (test : Option ℕ) (body : ℕ) (next : Option ℕ) → Way (iterations ev k test body next) (iterations ev k test body next)
+  iterations_way ev h zero test body next = ways.spending
+  iterations_way ev h (suc k) test body next = one_iteration_walk g Way ways ev ev h test body next _ _ (iterations_way ev h k test body next)
 
   begins_goes : (go : State → Outcome) → Way go go → (fuel : ℕ) (s : State) → GoesOn more (begins_with fuel go s) (begins_with fuel go (with_more more s))
   begins_goes go h zero s = refl
@@ -141,8 +141,8 @@ module _ (g : Setting) (more : List PlainEvent) where
   unfolding within
   within_way zero n = ways.spending
   within_way (suc k) n = record {
-    goes = λ s. begins_goes (does_node g (within g k) (turns (within g k) k) (slice_get g.base.program.nodes n))
-        (node_walk g Way ways (within g k) (within g k) (within_way k) (turns (within g k) k) (turns (within g k) k) (turns_way (within g k) (within_way k) k) (slice_get g.base.program.nodes n)) s.fuel s;
+    goes = λ s. begins_goes (does_node g (within g k) (iterations (within g k) k) (slice_get g.base.program.nodes n))
+        (node_walk g Way ways (within g k) (within g k) (within_way k) (iterations (within g k) k) (iterations (within g k) k) (iterations_way (within g k) (within_way k) k) (slice_get g.base.program.nodes n)) s.fuel s;
     sure = within_sure g (suc k) n;
   }
 

@@ -47,7 +47,7 @@ of_functions nodes functions = bare (program nodes functions [] (statements 0 []
 abbrev pub comes_to : Mode → ℕ → List PlainNode → List PlainBody → Outcome
 comes_to mode budget nodes functions = evaluation (of_functions nodes functions) budget (function mode (v.function 0 v.no_values) []) []
 
--- its end, with an answer, so much fuel and these effects
+-- its end, with an answer, this much fuel and these effects
 abbrev pub ends : PlainValue → ℕ → List Effect → Outcome
 ends answer fuel effects =
     went (normal answer) (record { slots = []; constants = None; calls = 0; fuel = fuel; replies = []; effects = effects; delivered = 0 })

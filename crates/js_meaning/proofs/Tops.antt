@@ -21,7 +21,7 @@ use Rattle.js_meaning.proofs.Small.{on, one, whole, slot, constant, body, statem
 abbrev top_comes_to : ℕ → PlainProgram → Outcome
 top_comes_to budget p = evaluation (bare p) budget the_top []
 
--- its end, with so much fuel, these constants and these effects
+-- its end, with this much fuel, these constants and these effects
 abbrev top_ends : ℕ → List (Option PlainValue) → List Effect → Outcome
 top_ends fuel constants effects =
     went (normal v.undefined) (record { slots = []; constants = Some constants; calls = 0; fuel = fuel; replies = []; effects = effects; delivered = 0 })

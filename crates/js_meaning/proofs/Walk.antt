@@ -38,7 +38,7 @@ use Rattle.js_meaning.specs.Variables.{in_slot, held, set_slot, set_variable, un
 use Rattle.js_meaning.specs.Calls.{body_of, after_call, applies, sequence, in_order, runs, enters, calls, for_each_from, for_each_call, calls_method}
 use Rattle.js_meaning.specs.Forms.{argument, does_to_run, registers_thread, asks, asserted, enqueues_event, sets_handler, log_text, logs, floors, takes_effect, applies_form}
 use Rattle.js_meaning.specs.Expressions.{unary_for, step_for, op_for, op_before, by_rule, writes, updates, does_update, assigns, combines}
-use Rattle.js_meaning.specs.Statements.{after_turn, without_value, declares, does_declaration, does_if_else, tests, perhaps, one_turn, each, each_of}
+use Rattle.js_meaning.specs.Statements.{after_iteration, without_value, declares, does_declaration, does_if_else, tests, perhaps, one_iteration, each, each_of}
 use Rattle.js_meaning.specs.Meaning.{does, does_node}
 use Rattle.js_meaning.specs.Bodies.{Origin, the_top, function, runs_body}
 use Rattle.js_meaning.specs.Modes.{acts}
@@ -57,7 +57,7 @@ pub record Ways (g : Setting) (W : (State → Outcome) → (State → Outcome) �
       ((slots : List (Option PlainValue)) (constants : Option (List (Option PlainValue))) (n : ℕ) → W (f slots constants n) (f' slots constants n)) →
       W (λ s. f s.slots s.constants s.calls s) (λ s. f' s.slots s.constants s.calls s)
   pub binding : (f f' : State → Outcome) (c c' : PlainValue → State → Outcome) → W f f' → ((x : PlainValue) → W (c x) (c' x)) → W (λ s. f s >>= c) (λ s. f' s >>= c')
-  pub turning : (f f' c c' : State → Outcome) → W f f' → W c c' → W (λ s. after_turn (f s) c) (λ s. after_turn (f' s) c')
+  pub iterating : (f f' c c' : State → Outcome) → W f f' → W c c' → W (λ s. after_iteration (f s) c) (λ s. after_iteration (f' s) c')
   pub entering : (slots : List (Option PlainValue)) (active : ℕ) (f f' : State → Outcome) → W f f' →
       W (λ s. after_call s.slots s.calls (f (record s { slots = slots; calls = active }))) (λ s. after_call s.slots s.calls (f' (record s { slots = slots; calls = active })))
 
@@ -264,7 +264,7 @@ module _ (g : Setting) (W : (State → Outcome) → (State → Outcome) → Type
 
     pub each_walk : (k body : ℕ) (vs : List PlainValue) → W (each ev k body vs) (each ev' k body vs)
     each_walk k body [] = leaves_walk
-    each_walk k body (y ∷ ys) = w.turning _ _ _ _ (w.changing k (Some y) (ev body) (ev' body) (h body)) (each_walk k body ys)
+    each_walk k body (y ∷ ys) = w.iterating _ _ _ _ (w.changing k (Some y) (ev body) (ev' body) (h body)) (each_walk k body ys)
 
     pub each_of_walk : (line k body : ℕ) (y : PlainValue) → W (each_of ev line k body y) (each_of ev' line k body y)
     each_of_walk line k body (v.list vs) = each_walk k body (values_in vs)
@@ -278,9 +278,9 @@ module _ (g : Setting) (W : (State → Outcome) → (State → Outcome) → Type
     perhaps_walk None = leaves_walk
     perhaps_walk (Some n) = h n
 
-    pub one_turn_walk : (test : Option ℕ) (body : ℕ) (next : Option ℕ) (again again' : State → Outcome) → W again again' → W (one_turn ev test body next again) (one_turn ev' test body next again')
-    one_turn_walk test body next again again' a =
-        bind _ _ (tests_walk test) (λ x. either (is_truthy x) (w.turning _ _ _ _ (h body) (bind _ _ (perhaps_walk next) (λ _. a))) leaves_walk)
+    pub one_iteration_walk : (test : Option ℕ) (body : ℕ) (next : Option ℕ) (again again' : State → Outcome) → W again again' → W (one_iteration ev test body next again) (one_iteration ev' test body next again')
+    one_iteration_walk test body next again again' a =
+        bind _ _ (tests_walk test) (λ x. either (is_truthy x) (w.iterating _ _ _ _ (h body) (bind _ _ (perhaps_walk next) (λ _. a))) leaves_walk)
 
     module _ (repeat repeat' : Option ℕ → ℕ → Option ℕ → State → Outcome) (r : (test : Option ℕ) (body : ℕ) (next : Option ℕ) → W (repeat test body next) (repeat' test body next)) where
       does_walk : (line : ℕ) (node : PlainNodeForm) → W (does g ev repeat line node) (does g ev' repeat' line node)

@@ -7,10 +7,10 @@ use Rattle.js_meaning.specs.State.{Setting, State, Outcome, spends, ◌>>=◌}
 use Rattle.js_meaning.specs.Variables.{undeclare}
 use Rattle.js_meaning.specs.Calls.{sequence, in_order}
 use Rattle.js_meaning.specs.Expressions.{op_before, assigns, combines}
-use Rattle.js_meaning.specs.Statements.{does_declaration, does_if, does_if_else, does_or, does_and, perhaps, turns, does_for_of}
+use Rattle.js_meaning.specs.Statements.{does_declaration, does_if, does_if_else, does_or, does_and, perhaps, iterations, does_for_of}
 
 -- What a node does after it has begun: `ev` gives what its parts do, and `repeat test body next` the
--- turns of a loop.
+-- iterations of a loop.
 module _ (g : Setting) (ev : ℕ → State → Outcome)
     (repeat : Option ℕ → ℕ → Option ℕ → State → Outcome) where
   abbrev pub does : ℕ → PlainNodeForm → State → Outcome
@@ -47,7 +47,7 @@ begins go s = begins_with s.fuel go s
 unfoldable pub within : Setting → ℕ → ℕ → State → Outcome
 within g zero n s = spends s
 within g (suc bound) n s =
-    begins (does_node g (within g bound) (turns (within g bound) bound)
+    begins (does_node g (within g bound) (iterations (within g bound) bound)
     (slice_get g.base.program.nodes n)) s
 
 -- the nodes that the fuel and the replies still allow
@@ -58,6 +58,6 @@ allowed budget s = s.fuel + budget * length s.replies
 unfoldable pub eval : Setting → ℕ → State → Outcome
 eval g n s = within g (allowed g.budget s) n s
 
--- The outcome of a loop's turns.
-unfoldable pub turns_of : Setting → Option ℕ → ℕ → Option ℕ → State → Outcome
-turns_of g test body next s = turns (eval g) (allowed g.budget s) test body next s
+-- The outcome of a loop's iterations.
+unfoldable pub iterations_of : Setting → Option ℕ → ℕ → Option ℕ → State → Outcome
+iterations_of g test body next s = iterations (eval g) (allowed g.budget s) test body next s

@@ -11,12 +11,12 @@ use Rattle.js_program.specs.PlainProgram.{PlainDeclared}
 use Rattle.js_meaning.specs.State.{State, normal, broke, continued, Outcome, went, spends, ◌>>=◌, gives, leaves, breaks}
 use Rattle.js_meaning.specs.Variables.{set_slot, set_variable, undeclare}
 
--- a turn of a loop is over: the loop goes on, is left, or is left by what goes further out
-abbrev pub after_turn : Outcome → (State → Outcome) → Outcome
-after_turn (went (normal v) s) again = again s
-after_turn (went continued s) again = again s
-after_turn (went broke s) again = leaves s
-after_turn o again = o
+-- an iteration of a loop is over: the loop goes on, is left, or is left by what goes further out
+abbrev pub after_iteration : Outcome → (State → Outcome) → Outcome
+after_iteration (went (normal v) s) again = again s
+after_iteration (went continued s) again = again s
+after_iteration (went broke s) again = leaves s
+after_iteration o again = o
 
 -- without a value a `let` is undefined, and a `var` stays what it is
 abbrev pub without_value : DeclareKind → Variable → State → State
@@ -64,21 +64,21 @@ module _ (ev : ℕ → State → Outcome) where
   perhaps None s = leaves s
   perhaps (Some n) s = ev n s
 
-  -- a turn: the test, the body, what comes between two turns, and the loop again
-  abbrev pub one_turn : Option ℕ → ℕ → Option ℕ → (State → Outcome) → State → Outcome
-  one_turn test body next again s =
+  -- an iteration: the test, the body, what comes between two iterations, and the loop again
+  abbrev pub one_iteration : Option ℕ → ℕ → Option ℕ → (State → Outcome) → State → Outcome
+  one_iteration test body next again s =
       tests test s >>= λ v. cond (is_truthy v)
-      (λ now. after_turn (ev body now) (λ later. perhaps next later >>= λ _. again)) leaves
+      (λ now. after_iteration (ev body now) (λ later. perhaps next later >>= λ _. again)) leaves
 
-  -- at most this many turns
-  abbrev pub turns : ℕ → Option ℕ → ℕ → Option ℕ → State → Outcome
-  turns zero test body next s = spends s
-  turns (suc n) test body next s = one_turn test body next (turns n test body next) s
+  -- at most this many iterations
+  abbrev pub iterations : ℕ → Option ℕ → ℕ → Option ℕ → State → Outcome
+  iterations zero test body next s = spends s
+  iterations (suc n) test body next s = one_iteration test body next (iterations n test body next) s
 
-  -- a turn for each element
+  -- an iteration for each element
   abbrev pub each : ℕ → ℕ → List PlainValue → State → Outcome
   each k body [] s = leaves s
-  each k body (v ∷ vs) s = after_turn (ev body (set_slot k (Some v) s)) (each k body vs)
+  each k body (v ∷ vs) s = after_iteration (ev body (set_slot k (Some v) s)) (each k body vs)
 
   abbrev pub each_of : ℕ → ℕ → ℕ → PlainValue → State → Outcome
   each_of line k body (v.list vs) s = each k body (values_in vs) s

@@ -4,8 +4,8 @@ ghost use Rattle.js_data.specs.Event.{PlainEvent};
 ghost use Rattle.js_value.specs.Value.{PlainValue};
 ghost use Rattle.js_program.specs.declared.builtin.Mode.{Mode};
 ghost use Rattle.js_meaning.specs.State.{Ground, Setting, State, Completion, Left, went, stopped, effects_of, effects_since};
-ghost use Rattle.js_meaning.specs.Statements.{one_turn};
-ghost use Rattle.js_meaning.specs.Meaning.{within, allowed, eval, turns_of, begins, does_node};
+ghost use Rattle.js_meaning.specs.Statements.{one_iteration};
+ghost use Rattle.js_meaning.specs.Meaning.{within, allowed, eval, iterations_of, begins, does_node};
 ghost use Rattle.js_meaning.specs.Bodies.{Origin, function, mode_of, start_of, evaluation};
 ghost use Rattle.js_meaning.specs.Later.{Follows};
 ghost use Rattle.js_meaning.specs.Modes.{OnlyAnswers, StandsOnGround};
@@ -14,13 +14,15 @@ ghost use Rattle.js_meaning.specs.Replies.{GoesOn, with_more};
 /// A node takes one unit of fuel and then does what its form says with the outcomes of its parts.
 pub fn evaluation_begins()
     ensures { (g : Setting) (n : ℕ) (s : State) →
-        eval g n s ≡ begins (does_node g (eval g) (turns_of g) (slice_get g.base.program.nodes n)) s }
+        eval g n s
+        ≡ begins (does_node g (eval g) (iterations_of g) (slice_get g.base.program.nodes n)) s }
 {}
 
-/// A loop tests, does its body, does what comes between two turns, and turns again.
-pub fn loops_turn_again()
+/// A loop tests, does its body, does what comes between two iterations, and begins again.
+pub fn loops_iterate_again()
     ensures { (g : Setting) (test : Option ℕ) (body : ℕ) (next : Option ℕ) (s : State) →
-        turns_of g test body next s ≡ one_turn (eval g) test body next (turns_of g test body next) s }
+        iterations_of g test body next s
+        ≡ one_iteration (eval g) test body next (iterations_of g test body next) s }
 {}
 
 /// Under any larger bound of the recursion the outcome is the same.

@@ -13,8 +13,8 @@ use js_data::{Data, Memory, Text};
 use std::alloc::Global;
 use std::sync::Arc;
 
-/// The data as a value, which shares nothing with the data. Its only error is out of memory: each part that
-/// is made has its first owner, so no count can be full.
+/// The data as a value, which shares nothing with the data. Each part that is made has its first owner, so
+/// no count of owners can be full.
 #[cycle(value_of)]
 pub fn value_of_data(alloc: Global, tree: &Data) -> Result<Value, Memory>
     requires { IsSortedData (plain_data tree.now) }

@@ -48,16 +48,14 @@ pub fn copy(v: &Value) -> Result<Value, Memory>
     }
 }
 
-/// The value of this text. Its only error is out of memory: the value is the first owner of the text, so no
-/// count can be full.
+/// The value of this text. It is the first owner of the text, so no count of owners can be full.
 pub fn text_value(alloc: Global, text: Text) -> Result<Value, Memory>
     ensures { IfOk result (λ v. plain_value v ≡ text_that_is text) }
 {
     Ok(Value::Text(Arc::new(alloc, text)?))
 }
 
-/// The value of this event. Its only error is out of memory: the value is the first owner of the event, so
-/// no count can be full.
+/// The value of this event. It is the first owner of the event, so no count of owners can be full.
 pub fn event_value(alloc: Global, event: Event) -> Result<Value, Memory>
     ensures { IfOk result (λ v. plain_value v ≡ event_that_is event) }
 {

@@ -8,8 +8,8 @@ use js_data::Memory;
 use std::alloc::Global;
 
 /// The set of an event, a set itself, or the union of a list of such; `None` exactly where the value is
-/// none of these. The set shares the events and sets of the value. Its only errors are out of memory and a
-/// count of owners that is full, which is answered `Memory` too; then nothing changes.
+/// none of these. The set shares the events and sets of the value. A count of owners that is full is
+/// answered `Memory` too, and nothing changes.
 #[cycle(set_of)]
 pub fn set_of_value(alloc: Global, v: &Value) -> Result<Option<EventSet>, Memory>
     ensures { IfOk result (λ o. o ≡ set_of (plain_value v.now)) }
@@ -46,8 +46,8 @@ fn sets_of_values(alloc: Global, items: &Items) -> Result<Option<Vec<EventSet>>,
 }
 
 /// The set of an event or a set itself, on which the methods of sets are called; `None` exactly where the
-/// value is neither. The set shares the event or is one more owner. Its only errors are out of memory and a
-/// count of owners that is full, which is answered `Memory` too; then nothing changes.
+/// value is neither. The set shares the event or is one more owner. A count of owners that is full is
+/// answered `Memory` too, and nothing changes.
 pub fn called_on(alloc: Global, v: &Value) -> Result<Option<EventSet>, Memory>
     ensures { IfOk result (λ o. o ≡ set_called_on (plain_value v.now)) }
 {

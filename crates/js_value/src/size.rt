@@ -12,7 +12,7 @@ use js_data::{Text, text_weight};
 use std::sync::Arc;
 
 /// The weight of the value, or the greatest u64 where it is more. Reads numbers that are kept, but for the
-/// data of an event; takes no memory.
+/// data of an event.
 pub fn weight(v: &Value) -> u64
     ensures { result ≡ capped (value_weight (plain_value v.now)) }
 {
@@ -28,7 +28,7 @@ pub fn weight(v: &Value) -> u64
 }
 
 /// The nesting of the value, or the greatest u64 where it is more. Reads numbers that are kept, but for the
-/// data of an event; takes no memory.
+/// data of an event.
 pub fn nesting(v: &Value) -> u64
     ensures { result ≡ capped (value_nesting (plain_value v.now)) }
 {

@@ -13,7 +13,7 @@ use Rattle.js_value.specs.Views.{plain_value}
 use Rattle.js_program.specs.PlainProgram as p
 use Rattle.js_program.specs.PlainProgram.{PlainNodeForm, PlainNode, PlainContent, PlainProgram}
 use Rattle.js_meaning.specs.State.{Setting, State, Outcome, gives}
-use Rattle.js_meaning.specs.Meaning.{does_node, eval, turns_of}
+use Rattle.js_meaning.specs.Meaning.{does_node, eval, iterations_of}
 use Rattle.js_frames.specs.declared.step.Completion.TheVariants.{Normal}
 use Rattle.js_frames.specs.declared.step.Step.{Step}
 use Rattle.js_frames.specs.declared.step.Step.TheVariants.{Begin, Give, Fail}
@@ -124,7 +124,7 @@ first_of (p.one_value n) = Some n
 
 -- what a node does that has begun
 abbrev pub node_does : Setting → ℕ → State → Outcome
-node_does g n s = does_node g (eval g) (turns_of g) (slice_get g.base.program.nodes n) s
+node_does g n s = does_node g (eval g) (iterations_of g) (slice_get g.base.program.nodes n) s
 
 -- the value that a node of this form only gives, where the machine stands
 abbrev pub leaf_at : js.Ground → Place → PlainNodeForm → Option PlainValue

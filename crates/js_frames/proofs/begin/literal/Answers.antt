@@ -2,7 +2,7 @@ use Rattle.std.proofs.Common.{ap}
 use Rattle.js_value.specs.Value as v
 use Rattle.js_ops.specs.Made.{made}
 use Rattle.js_meaning.specs.State.{answered}
-use Rattle.js_frames.proofs.Becoming.{becomes_as}
+use Rattle.js_frames.proofs.BecomesLemmas.{becomes_as}
 use Rattle.js_frames.proofs.begin.literal.Goals as goal
 
 pub returns : goal.returns

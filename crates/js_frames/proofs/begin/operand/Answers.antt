@@ -1,6 +1,6 @@
 use Rattle.std.proofs.Common.{sym, ap}
 use Rattle.js_frames.specs.inner.Leads.{operand_frame}
-use Rattle.js_frames.proofs.Beginning.{operand_other}
+use Rattle.js_frames.proofs.BeginLemmas.{operand_other}
 use Rattle.js_frames.proofs.begin.operand.Goals as goal
 
 pub returns-in-Or : goal.returns-in-Or

@@ -1,7 +1,7 @@
 use Rattle.std.proofs.Common.{sym, ap, ◌∙◌}
 use Rattle.js_program.specs.Views.{plain_node_form}
 use Rattle.js_frames.specs.Frames.{block_in}
-use Rattle.js_frames.proofs.Beginning.{no_block}
+use Rattle.js_frames.proofs.BeginLemmas.{no_block}
 use Rattle.js_frames.proofs.blocks.block_in.Goals as goal
 
 pub returns-in-Block : goal.returns-in-Block

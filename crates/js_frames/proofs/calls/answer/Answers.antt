@@ -1,7 +1,7 @@
 use Rattle.std.proofs.Common.{sym, ap}
 use Rattle.js_meaning.specs.Calls.{answer_of}
 use Rattle.js_frames.specs.Frames.{plain_completion}
-use Rattle.js_frames.proofs.Calling.{no_answer}
+use Rattle.js_frames.proofs.CallLemmas.{no_answer}
 use Rattle.js_frames.proofs.calls.answer.Goals as goal
 
 pub returns-in-Returned : goal.returns-in-Returned

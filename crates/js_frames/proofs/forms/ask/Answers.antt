@@ -2,7 +2,7 @@ use Rattle.std.proofs.Common.{ap, ◌∙◌}
 use Rattle.js_value.specs.Views.{plain_value}
 use Rattle.js_meaning.specs.Forms.{argument, asks}
 use Rattle.js_frames.proofs.Lists.{argument_taken}
-use Rattle.js_frames.proofs.Becoming.{asks_so}
+use Rattle.js_frames.proofs.BecomesLemmas.{asks_so}
 use Rattle.js_frames.proofs.forms.ask.Goals as goal
 
 pub returns : goal.returns

@@ -6,8 +6,8 @@ use Rattle.js_value.specs.declared.value.Value.TheVariants.{Undefined}
 use Rattle.js_meaning.specs.State.{leaves, violated, left_of}
 use Rattle.js_meaning.specs.Forms.{asserted}
 use Rattle.js_frames.proofs.Steps.{if_true, if_false}
-use Rattle.js_frames.proofs.Acting.{no_text}
-use Rattle.js_frames.proofs.Becoming.{gives_so, fails_so, violates_so}
+use Rattle.js_frames.proofs.EffectLemmas.{no_text}
+use Rattle.js_frames.proofs.BecomesLemmas.{gives_so, fails_so, violates_so}
 use Rattle.js_frames.proofs.forms.assert_with.Goals as goal
 
 pub returns-in_default : goal.returns-in_default

@@ -2,7 +2,7 @@ use Rattle.std.proofs.Common.{ap, ◌∙◌}
 use Rattle.js_value.specs.Views.{plain_value}
 use Rattle.js_meaning.specs.Forms.{argument, asserted}
 use Rattle.js_frames.proofs.Lists.{argument_taken}
-use Rattle.js_frames.proofs.Becoming.{becomes_as}
+use Rattle.js_frames.proofs.BecomesLemmas.{becomes_as}
 use Rattle.js_frames.proofs.forms.asserted.Goals as goal
 
 pub returns : goal.returns

@@ -3,8 +3,8 @@ use Rattle.js_data.specs.declared.fault.Fault.TheVariants as fault
 use Rattle.js_value.specs.Views.{plain_value}
 use Rattle.js_value.specs.declared.value.Value.TheVariants as value
 use Rattle.js_meaning.specs.Forms.{floors}
-use Rattle.js_frames.proofs.Acting.{no_whole}
-use Rattle.js_frames.proofs.Becoming.{gives_so, fails_so}
+use Rattle.js_frames.proofs.EffectLemmas.{no_whole}
+use Rattle.js_frames.proofs.BecomesLemmas.{gives_so, fails_so}
 use Rattle.js_frames.proofs.forms.floored.Goals as goal
 
 pub returns : goal.returns

@@ -4,8 +4,8 @@ use Rattle.js_data.specs.JsonText.{data_text}
 use Rattle.js_value.specs.Views.{plain_value}
 use Rattle.js_value.specs.DataValues.{value_data}
 use Rattle.js_meaning.specs.Forms.{log_text}
-use Rattle.js_frames.proofs.Acting.{other_text}
-use Rattle.js_frames.proofs.Becoming.{ok_means}
+use Rattle.js_frames.proofs.EffectLemmas.{other_text}
+use Rattle.js_frames.proofs.BecomesLemmas.{ok_means}
 use Rattle.js_frames.proofs.forms.log_text.Goals as goal
 
 pub returns-in-List : goal.returns-in-List

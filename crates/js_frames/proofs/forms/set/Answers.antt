@@ -2,7 +2,7 @@ use Rattle.std.proofs.Common.{ap}
 use Rattle.js_value.specs.Value as v
 use Rattle.js_value.specs.declared.value.Value.TheVariants as value
 use Rattle.js_meaning.specs.State.{gives}
-use Rattle.js_frames.proofs.Becoming.{gives_so}
+use Rattle.js_frames.proofs.BecomesLemmas.{gives_so}
 use Rattle.js_frames.proofs.forms.set.Goals as goal
 
 pub returns : goal.returns

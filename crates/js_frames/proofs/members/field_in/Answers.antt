@@ -1,6 +1,6 @@
 use Rattle.std.proofs.Common.{sym, ◌∙◌, arith}
 use Rattle.js_value.proofs.Sorted.{field_sorted}
-use Rattle.js_frames.proofs.Reading.{as_found, found_here, found_later, found_never}
+use Rattle.js_frames.proofs.MemberLemmas.{as_found, found_here, found_later, found_never}
 use Rattle.js_frames.proofs.members.field_in.Goals as goal
 
 pub value_of_data-requires : goal.value_of_data-requires

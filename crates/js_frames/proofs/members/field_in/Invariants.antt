@@ -1,5 +1,5 @@
 use Rattle.std.proofs.Common.{◌≡◌, drop}
-use Rattle.js_frames.proofs.Reading.{found_in}
+use Rattle.js_frames.proofs.MemberLemmas.{found_in}
 use Rattle.js_frames.proofs.members.field_in.Given as goal
 
 abbrev pub invariant-loop-field : goal.invariant-loop-field

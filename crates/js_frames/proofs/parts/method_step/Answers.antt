@@ -4,7 +4,7 @@ use Rattle.js_value.specs.Views.{plain_value}
 use Rattle.js_ops.specs.Methods.{method_of, method_named}
 use Rattle.js_meaning.specs.State.{answered}
 use Rattle.js_meaning.specs.Calls.{applies}
-use Rattle.js_frames.proofs.Becoming.{fails_so, becomes_as}
+use Rattle.js_frames.proofs.BecomesLemmas.{fails_so, becomes_as}
 use Rattle.js_frames.proofs.parts.method_step.Goals as goal
 
 pub returns-in-None : goal.returns-in-None

@@ -2,7 +2,7 @@ use Rattle.std.proofs.Common.{sym, ap, ◌∙◌, ◌∷◌}
 use Rattle.std.specs.Prelude.{slice_get}
 use Rattle.js_program.specs.PlainProgram.{parts_of}
 use Rattle.js_program.specs.Views.{plain_node_form}
-use Rattle.js_frames.proofs.Beginning.{long_only}
+use Rattle.js_frames.proofs.BeginLemmas.{long_only}
 use Rattle.js_frames.proofs.parts.part_at.Goals as goal
 
 pub returns-in-List : goal.returns-in-List

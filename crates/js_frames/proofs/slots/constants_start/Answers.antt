@@ -1,6 +1,6 @@
 use Rattle.std.proofs.Common.{◌∙◌}
 use Rattle.js_meaning.specs.Variables.{constant_start}
-use Rattle.js_frames.proofs.Filling.{moved_next}
+use Rattle.js_frames.proofs.GrowthLemmas.{moved_next}
 use Rattle.js_frames.proofs.slots.constants_start.Goals as goal
 
 pub loop-number-preserved : goal.loop-number-preserved

@@ -1,7 +1,7 @@
 use Rattle.std.proofs.Common.{sym, ap, subst}
 use Rattle.js_ops.specs.Answers.{AnswersAs}
 use Rattle.js_meaning.specs.State.{answered}
-use Rattle.js_frames.proofs.Becoming.{gives_so, fails_as}
+use Rattle.js_frames.proofs.BecomesLemmas.{gives_so, fails_as}
 use Rattle.js_frames.proofs.step.answered.Goals as goal
 
 pub returns-in-Ok : goal.returns-in-Ok

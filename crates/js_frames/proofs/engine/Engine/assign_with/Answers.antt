@@ -7,7 +7,7 @@ use Rattle.js_meaning.specs.Expressions.{writes}
 use Rattle.js_frames.specs.Places.{plain_ground, place_of, here}
 use Rattle.js_frames.specs.Frames.{rest, resume}
 use Rattle.js_frames.proofs.Steps.{wait_leads, on_ok}
-use Rattle.js_frames.proofs.Writing.{early, declared_goes}
+use Rattle.js_frames.proofs.SlotLemmas.{early, declared_goes}
 use Rattle.js_frames.proofs.engine.Engine.assign_with.Goals as goal
 
 pub returns-in_default : goal.returns-in_default

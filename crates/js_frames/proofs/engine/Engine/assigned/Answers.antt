@@ -3,7 +3,7 @@ use Rattle.js_value.specs.Views.{plain_value}
 use Rattle.js_meaning.specs.Expressions.{writes}
 use Rattle.js_frames.specs.Places.{plain_ground, place_of}
 use Rattle.js_frames.proofs.Steps.{on_ok}
-use Rattle.js_frames.proofs.Writing.{early, declared_goes}
+use Rattle.js_frames.proofs.SlotLemmas.{early, declared_goes}
 use Rattle.js_frames.proofs.engine.Engine.assigned.Goals as goal
 
 pub returns-in_default : goal.returns-in_default

@@ -4,7 +4,7 @@ use Rattle.js_frames.specs.Places.{plain_ground, place_of, here}
 use Rattle.js_frames.specs.Fits.{IsShort}
 use Rattle.js_frames.specs.Frames.{rest, resume}
 use Rattle.js_frames.proofs.Steps.{begin_means, begin_waits, begin_gives, part_is, has_form}
-use Rattle.js_frames.proofs.Beginning.{operand_begins, short_begins}
+use Rattle.js_frames.proofs.BeginLemmas.{operand_begins, short_begins}
 use Rattle.js_frames.proofs.engine.Engine.begin.Goals as goal
 
 pub returns-in-Number : goal.returns-in-Number

@@ -11,7 +11,7 @@ use Rattle.js_frames.specs.declared.frame.Sequence.TheVariants.{Block}
 use Rattle.js_frames.specs.Frames.{rest, resume, loop, starts_loop, sequence_from}
 use Rattle.js_frames.specs.inner.Leads.{operand_frame}
 use Rattle.js_frames.proofs.Steps.{begin_means, begin_waits, begin_gives, part_is, has_form, becomes_ok}
-use Rattle.js_frames.proofs.Beginning.{wait_for, long_begins, short_begins, operand_begins, operand_fits, block_begins, declaration_begins, for_parts}
+use Rattle.js_frames.proofs.BeginLemmas.{wait_for, long_begins, short_begins, operand_begins, operand_fits, block_begins, declaration_begins, for_parts}
 use Rattle.js_frames.proofs.engine.Engine.begin_any.Goals as goal
 
 pub returns-in-Number : goal.returns-in-Number

@@ -5,7 +5,7 @@ use Rattle.js_program.specs.PlainProgram.{PlainNode}
 use Rattle.js_program.specs.Views.{plain_node_form}
 use Rattle.js_frames.specs.Places.{plain_ground, place_of}
 use Rattle.js_frames.proofs.Steps.{part_is}
-use Rattle.js_frames.proofs.Reading.{data_given}
+use Rattle.js_frames.proofs.MemberLemmas.{data_given}
 use Rattle.js_frames.proofs.engine.Engine.begin_data.Goals as goal
 
 pub leaf_value-requires : goal.leaf_value-requires

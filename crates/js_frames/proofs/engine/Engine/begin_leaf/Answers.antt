@@ -3,7 +3,7 @@ use Rattle.std.specs.Prelude.{option_map}
 use Rattle.js_value.specs.Views.{plain_value}
 use Rattle.js_frames.specs.Places.{plain_ground, place_of}
 use Rattle.js_frames.proofs.Steps.{gave_one}
-use Rattle.js_frames.proofs.Giving.{leaf_gives}
+use Rattle.js_frames.proofs.LeafLemmas.{leaf_gives}
 use Rattle.js_frames.proofs.engine.Engine.begin_leaf.Goals as goal
 
 pub returns-in-Some-clause-some : goal.returns-in-Some-clause-some

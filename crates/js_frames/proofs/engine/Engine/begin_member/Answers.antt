@@ -11,8 +11,8 @@ use Rattle.js_frames.specs.Fits.{IsShort, StackFits}
 use Rattle.js_frames.specs.inner.Leads.{Leads, waits_for}
 use Rattle.js_frames.specs.inner.Reading.{GaveData}
 use Rattle.js_frames.proofs.Steps.{becomes_ok, begin_means, has_form}
-use Rattle.js_frames.proofs.Beginning.{parts_with, short_begins}
-use Rattle.js_frames.proofs.Reading.{data_fits, data_on}
+use Rattle.js_frames.proofs.BeginLemmas.{parts_with, short_begins}
+use Rattle.js_frames.proofs.MemberLemmas.{data_fits, data_on}
 use Rattle.js_frames.proofs.engine.Engine.begin_member.Goals as goal
 
 pub begin_first-requires : goal.begin_first-requires

@@ -3,7 +3,7 @@ use Rattle.js_frames.specs.declared.frame.Sequence.TheVariants.{Block}
 use Rattle.js_frames.specs.Places.{plain_ground, place_of, here}
 use Rattle.js_frames.specs.Frames.{sequence_from}
 use Rattle.js_frames.proofs.Steps.{moves_ok}
-use Rattle.js_frames.proofs.Iterating.{state_undeclared}
+use Rattle.js_frames.proofs.LoopLemmas.{state_undeclared}
 use Rattle.js_frames.proofs.engine.Engine.block.Goals as goal
 
 pub returns : goal.returns

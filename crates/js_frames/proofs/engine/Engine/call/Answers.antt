@@ -6,7 +6,7 @@ use Rattle.js_frames.specs.Places.{plain_ground, place_of, here}
 use Rattle.js_frames.specs.Frames.{step_outcome}
 use Rattle.js_frames.specs.inner.Leads.{Leads}
 use Rattle.js_frames.proofs.Steps.{means_ok, stays}
-use Rattle.js_frames.proofs.Calling.{no_call}
+use Rattle.js_frames.proofs.CallLemmas.{no_call}
 use Rattle.js_frames.proofs.engine.Engine.call.Goals as goal
 
 pub returns-in-Function : goal.returns-in-Function

@@ -4,7 +4,7 @@ use Rattle.js_meaning.specs.Calls.{calls}
 use Rattle.js_meaning.specs.Meaning.{eval}
 use Rattle.js_frames.specs.Places.{plain_ground, place_of, here}
 use Rattle.js_frames.specs.inner.Leads.{Leads}
-use Rattle.js_frames.proofs.Writing.{failed_never, value_answered}
+use Rattle.js_frames.proofs.SlotLemmas.{failed_never, value_answered}
 use Rattle.js_frames.proofs.engine.Engine.call_field.Goals as goal
 
 pub returns-in-Ok : goal.returns-in-Ok

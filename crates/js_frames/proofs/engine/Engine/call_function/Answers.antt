@@ -4,7 +4,7 @@ use Rattle.js_frames.specs.Places.{plain_ground, place_of}
 use Rattle.js_program.specs.Views.{plain_body}
 use Rattle.std.proofs.lemmas.Option.{slice_get_within}
 use Rattle.js_frames.proofs.Numbers.{function_parts, function_statements}
-use Rattle.js_frames.proofs.Calling.{too_deep, no_function, call_enters}
+use Rattle.js_frames.proofs.CallLemmas.{too_deep, no_function, call_enters}
 use Rattle.js_frames.proofs.engine.Engine.call_function.Goals as goal
 
 pub returns-then-self-ge-MOST_CALLS : goal.returns-then-self-ge-MOST_CALLS

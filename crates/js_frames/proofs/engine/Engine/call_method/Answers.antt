@@ -5,7 +5,7 @@ use Rattle.js_meaning.specs.Meaning.{eval}
 use Rattle.js_ops.specs.Members.{field_or_undefined}
 use Rattle.js_frames.specs.Places.{plain_ground, here}
 use Rattle.js_frames.proofs.Steps.{means_ok}
-use Rattle.js_frames.proofs.Calling.{no_method_call}
+use Rattle.js_frames.proofs.CallLemmas.{no_method_call}
 use Rattle.js_frames.proofs.engine.Engine.call_method.Goals as goal
 
 pub returns-in-Fields : goal.returns-in-Fields

@@ -8,7 +8,7 @@ use Rattle.js_value.specs.declared.op.Make.TheVariants as make
 use Rattle.js_ops.specs.Making.{make_of}
 use Rattle.js_meaning.specs.State.{answered}
 use Rattle.js_frames.proofs.Steps.{means_ok, becomes_ok}
-use Rattle.js_frames.proofs.Beginning.{long_only}
+use Rattle.js_frames.proofs.BeginLemmas.{long_only}
 use Rattle.js_frames.proofs.engine.Engine.combine.Goals as goal
 
 pub returns-in-List : goal.returns-in-List

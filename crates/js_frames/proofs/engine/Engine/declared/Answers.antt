@@ -1,6 +1,6 @@
 use Rattle.js_value.specs.Views.{plain_value}
 use Rattle.js_frames.specs.Places.{plain_ground, place_of}
-use Rattle.js_frames.proofs.Declaring.{declared_on}
+use Rattle.js_frames.proofs.VariableLemmas.{declared_on}
 use Rattle.js_frames.proofs.engine.Engine.declared.Goals as goal
 
 pub returns : goal.returns

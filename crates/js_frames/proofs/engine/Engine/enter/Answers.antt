@@ -6,7 +6,7 @@ use Rattle.js_value.specs.Lists.{values_in}
 use Rattle.js_frames.specs.Places.{plain_ground, place_of}
 use Rattle.js_frames.specs.inner.Leads.{IsBegin, entered}
 use Rattle.js_frames.proofs.Steps.{on_ok}
-use Rattle.js_frames.proofs.Calling.{same_effects, enter_nothing, enter_leads, first_part, statements_fit, statements_wait, value_fits, value_waits}
+use Rattle.js_frames.proofs.CallLemmas.{same_effects, enter_nothing, enter_leads, first_part, statements_fit, statements_wait, value_fits, value_waits}
 use Rattle.js_frames.proofs.engine.Engine.enter.Goals as goal
 
 pub returns-in_default : goal.returns-in_default

@@ -7,7 +7,7 @@ use Rattle.js_frames.specs.inner.Leads.{Leads}
 use Rattle.js_frames.specs.Fits.{StackFits}
 use Rattle.js_frames.specs.Frames.{step_outcome, walk_from}
 use Rattle.js_frames.proofs.Steps.{means_ok, stays}
-use Rattle.js_frames.proofs.Calling.{walk_begins, no_walk}
+use Rattle.js_frames.proofs.CallLemmas.{walk_begins, no_walk}
 use Rattle.js_frames.proofs.engine.Engine.for_each.Goals as goal
 
 pub returns-in-Function : goal.returns-in-Function

@@ -3,7 +3,7 @@ use Rattle.std.specs.Prelude.{slice_get}
 use Rattle.js_frames.specs.Places.{plain_ground, here}
 use Rattle.js_frames.specs.Frames.{rest, resume}
 use Rattle.js_frames.proofs.Steps.{wait_leads, left}
-use Rattle.js_frames.proofs.Calling.{next_statement, no_statement}
+use Rattle.js_frames.proofs.CallLemmas.{next_statement, no_statement}
 use Rattle.js_frames.proofs.engine.Engine.go_on.Goals as goal
 
 pub returns-in-Some : goal.returns-in-Some

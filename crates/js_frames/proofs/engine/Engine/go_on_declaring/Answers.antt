@@ -6,8 +6,8 @@ use Rattle.js_program.specs.Views.{plain_node, plain_declared, plain_node_form}
 use Rattle.js_frames.specs.Places.{plain_ground, place_of, here}
 use Rattle.js_frames.specs.Fits.{StackFits, IsDeclaration}
 use Rattle.js_frames.proofs.Steps.{left}
-use Rattle.js_frames.proofs.Beginning.{form_here, declaration_only}
-use Rattle.js_frames.proofs.Declaring.{onward_first, onward_next, onward_leads, onward_waits, declaring_over, declared_part}
+use Rattle.js_frames.proofs.BeginLemmas.{form_here, declaration_only}
+use Rattle.js_frames.proofs.VariableLemmas.{onward_first, onward_next, onward_leads, onward_waits, declaring_over, declared_part}
 use Rattle.js_frames.proofs.engine.Engine.go_on_declaring.Goals as goal
 
 get_here : (at : ℕ) {o : Option PlainDeclared} {ds es : List Declared} → ds ≡ es → o ≡ slice_get (map plain_declared ds) at → slice_get (map plain_declared es) at ≡ o

@@ -1,6 +1,6 @@
 use Rattle.std.proofs.Common.{◌-◌, length}
 use Rattle.js_frames.specs.Places.{plain_ground, place_of}
-use Rattle.js_frames.proofs.Declaring.{Onward}
+use Rattle.js_frames.proofs.VariableLemmas.{Onward}
 use Rattle.js_frames.proofs.engine.Engine.go_on_declaring.Given as goal
 
 abbrev pub invariant-loop-declarator : goal.invariant-loop-declarator

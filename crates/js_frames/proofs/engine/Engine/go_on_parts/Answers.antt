@@ -10,7 +10,7 @@ use Rattle.js_frames.specs.Frames.{rest, resume}
 use Rattle.js_frames.specs.inner.Leads.{Gave}
 use Rattle.js_frames.proofs.Steps.{waits_still, means_ok}
 use Rattle.js_frames.proofs.InOrder.{parts_wait, parts_done}
-use Rattle.js_frames.proofs.Taking.{Onto, onto_first, onto_next, onto_leads, onto_fits}
+use Rattle.js_frames.proofs.PartLemmas.{Onto, onto_first, onto_next, onto_leads, onto_fits}
 use Rattle.js_frames.proofs.engine.Engine.go_on_parts.Goals as goal
 
 pub loop-part-init : goal.loop-part-init

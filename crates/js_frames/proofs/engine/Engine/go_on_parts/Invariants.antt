@@ -1,5 +1,5 @@
 use Rattle.js_frames.specs.Places.{plain_ground, place_of}
-use Rattle.js_frames.proofs.Taking.{Onto}
+use Rattle.js_frames.proofs.PartLemmas.{Onto}
 use Rattle.js_frames.proofs.engine.Engine.go_on_parts.Given as goal
 
 abbrev pub invariant-loop-part : goal.invariant-loop-part

@@ -3,7 +3,7 @@ use Rattle.js_frames.specs.Places.{plain_ground, here}
 use Rattle.js_frames.specs.Fits.{IsPerhapsNode}
 use Rattle.js_frames.specs.Frames.{resume}
 use Rattle.js_frames.proofs.Steps.{wait_leads, means_ok}
-use Rattle.js_frames.proofs.Iterating.{next_absent, next_there}
+use Rattle.js_frames.proofs.LoopLemmas.{next_absent, next_there}
 use Rattle.js_frames.proofs.engine.Engine.iterated.Goals as goal
 
 pub returns-in-None : goal.returns-in-None

@@ -2,7 +2,7 @@ use Rattle.std.proofs.Common.{Some, sym, ap, ◌∙◌}
 use Rattle.js_program.specs.Views.{plain_node_form}
 use Rattle.js_frames.specs.Places.{plain_ground, place_of}
 use Rattle.js_frames.specs.inner.Leads.{leaf_at, leaf_of}
-use Rattle.js_frames.proofs.Giving.{no_leaf}
+use Rattle.js_frames.proofs.LeafLemmas.{no_leaf}
 use Rattle.js_frames.proofs.engine.Engine.leaf_value.Goals as goal
 
 pub returns-in-Number : goal.returns-in-Number

@@ -2,7 +2,7 @@ use Rattle.std.proofs.Common.{sym, ap}
 use Rattle.js_frames.specs.Places.{plain_ground, place_of, here}
 use Rattle.js_frames.specs.inner.Leads.{operand_frame, waits_for}
 use Rattle.js_frames.proofs.Steps.{wait_leads, means_ok}
-use Rattle.js_frames.proofs.Beginning.{operand_other}
+use Rattle.js_frames.proofs.BeginLemmas.{operand_other}
 use Rattle.js_frames.proofs.engine.Engine.operator.Goals as goal
 
 pub returns-in-Or : goal.returns-in-Or

@@ -6,7 +6,7 @@ use Rattle.js_frames.specs.declared.step.Completion.TheVariants.{Normal}
 use Rattle.js_frames.specs.Places.{plain_ground, place_of, state_at}
 use Rattle.js_frames.specs.inner.Leads.{Leads}
 use Rattle.js_frames.proofs.Steps.{fails_at, completes_at}
-use Rattle.js_frames.proofs.Declaring.{held_here}
+use Rattle.js_frames.proofs.VariableLemmas.{held_here}
 use Rattle.js_frames.proofs.engine.Engine.read.Goals as goal
 
 pub returns-in-None : goal.returns-in-None

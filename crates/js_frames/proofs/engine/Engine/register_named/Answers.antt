@@ -6,7 +6,7 @@ use Rattle.js_frames.specs.Places.{plain_ground, place_of}
 use Rattle.js_frames.specs.inner.Leads.{Leads}
 use Rattle.js_frames.specs.Frames.{step_outcome}
 use Rattle.js_frames.proofs.Steps.{means_ok, stays}
-use Rattle.js_frames.proofs.Acting.{no_thread}
+use Rattle.js_frames.proofs.EffectLemmas.{no_thread}
 use Rattle.js_frames.proofs.engine.Engine.register_named.Goals as goal
 
 pub returns-in-Function : goal.returns-in-Function

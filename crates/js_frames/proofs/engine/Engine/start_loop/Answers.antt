@@ -6,7 +6,7 @@ use Rattle.js_frames.specs.Places.{plain_ground, place_of, here, state_at}
 use Rattle.js_frames.specs.Fits.{IsPerhapsNode}
 use Rattle.js_frames.specs.Frames.{rest, resume, loop}
 use Rattle.js_frames.proofs.Steps.{wait_leads, moves_ok}
-use Rattle.js_frames.proofs.Iterating.{state_undeclared, start_absent, start_there}
+use Rattle.js_frames.proofs.LoopLemmas.{state_undeclared, start_absent, start_there}
 use Rattle.js_frames.proofs.engine.Engine.start_loop.Goals as goal
 
 pub returns-in-None : goal.returns-in-None

@@ -3,7 +3,7 @@ use Rattle.js_frames.specs.Places.{plain_ground, here}
 use Rattle.js_frames.specs.Fits.{IsPerhapsNode}
 use Rattle.js_frames.specs.Frames.{resume}
 use Rattle.js_frames.proofs.Steps.{wait_leads, means_ok}
-use Rattle.js_frames.proofs.Iterating.{loop_without_test, loop_with_test}
+use Rattle.js_frames.proofs.LoopLemmas.{loop_without_test, loop_with_test}
 use Rattle.js_frames.proofs.engine.Engine.test.Goals as goal
 
 pub returns-in-None : goal.returns-in-None

@@ -7,7 +7,7 @@ use Rattle.js_meaning.specs.Expressions.{step_for, updates}
 use Rattle.js_frames.specs.Places.{plain_ground, place_of}
 use Rattle.js_frames.specs.inner.Leads.{Leads}
 use Rattle.js_frames.proofs.Steps.{on_ok}
-use Rattle.js_frames.proofs.Writing.{early, declared_goes}
+use Rattle.js_frames.proofs.SlotLemmas.{early, declared_goes}
 use Rattle.js_frames.proofs.engine.Engine.update.Goals as goal
 
 pub returns-in_default : goal.returns-in_default

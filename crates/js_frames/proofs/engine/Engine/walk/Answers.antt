@@ -9,7 +9,7 @@ use Rattle.js_frames.specs.Frames.{walk_from}
 use Rattle.js_frames.specs.Fits.{StackFits}
 use Rattle.js_program.specs.Views.{plain_body}
 use Rattle.js_frames.proofs.Numbers.{function_parts}
-use Rattle.js_frames.proofs.Calling.{walk_over, walk_too_deep, walk_nothing}
+use Rattle.js_frames.proofs.CallLemmas.{walk_over, walk_too_deep, walk_nothing}
 use Rattle.js_frames.proofs.engine.Engine.walk.Goals as goal
 
 pub returns-in_default : goal.returns-in_default

@@ -11,7 +11,7 @@ use Rattle.js_frames.specs.Fits.{StackFits}
 use Rattle.js_frames.proofs.Numbers.{function_statements}
 use Rattle.js_frames.specs.inner.Leads.{Leads}
 use Rattle.js_frames.proofs.Steps.{means_ok, fits_pushed}
-use Rattle.js_frames.proofs.Calling.{walks_on}
+use Rattle.js_frames.proofs.CallLemmas.{walks_on}
 use Rattle.js_frames.proofs.engine.Engine.walk_on.Goals as goal
 
 pub overflow_add-active : goal.overflow_add-active

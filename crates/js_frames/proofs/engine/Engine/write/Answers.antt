@@ -3,7 +3,7 @@ use Rattle.js_ops.specs.Answers.{AnswersAs}
 use Rattle.js_meaning.specs.Expressions.{writes}
 use Rattle.js_frames.specs.Places.{plain_ground, place_of}
 use Rattle.js_frames.specs.inner.Leads.{Leads}
-use Rattle.js_frames.proofs.Writing.{written, failed_goes}
+use Rattle.js_frames.proofs.SlotLemmas.{written, failed_goes}
 use Rattle.js_frames.proofs.engine.Engine.write.Goals as goal
 
 pub returns-in_ok-copied-in-Ok : goal.returns-in_ok-copied-in-Ok

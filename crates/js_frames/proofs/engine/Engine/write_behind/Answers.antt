@@ -4,7 +4,7 @@ use Rattle.js_ops.specs.Answers.{AnswersAs}
 use Rattle.js_frames.specs.Places.{plain_ground, place_of}
 use Rattle.js_frames.specs.Frames.{writes_behind}
 use Rattle.js_frames.specs.inner.Leads.{Leads}
-use Rattle.js_frames.proofs.Writing.{written_behind, failed_goes}
+use Rattle.js_frames.proofs.SlotLemmas.{written_behind, failed_goes}
 use Rattle.js_frames.proofs.engine.Engine.write_behind.Goals as goal
 
 pub returns-in-Ok : goal.returns-in-Ok

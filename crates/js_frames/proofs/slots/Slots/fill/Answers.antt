@@ -1,5 +1,5 @@
 use Rattle.std.proofs.Common.{◌++◌, ◌∷◌, [], ◌-◌, ◌∙◌, ap, None, replicate, arith, inr}
-use Rattle.js_frames.proofs.Filling.{fill_more, filled}
+use Rattle.js_frames.proofs.GrowthLemmas.{fill_more, filled}
 use Rattle.js_frames.proofs.slots.Slots.fill.Goals as goal
 
 pub loop-preserved : goal.loop-preserved

@@ -3,7 +3,7 @@ use Rattle.std.specs.Prelude.{fold, slice_set}
 use Rattle.js_value.specs.Value.{undefined}
 use Rattle.js_value.specs.Lists.{values_in}
 use Rattle.js_program.specs.Views.{plain_body}
-use Rattle.js_frames.proofs.Filling.{slots_made}
+use Rattle.js_frames.proofs.GrowthLemmas.{slots_made}
 use Rattle.js_frames.proofs.slots.Slots.of_call.Goals as goal
 
 pub returns : goal.returns

@@ -1,7 +1,7 @@
 use Rattle.std.proofs.Common.{◌∙◌, ap, length}
 use Rattle.js_value.specs.Value.{undefined}
 use Rattle.js_value.specs.Views.{plain_value}
-use Rattle.js_frames.proofs.Filling.{push_next}
+use Rattle.js_frames.proofs.GrowthLemmas.{push_next}
 use Rattle.std.proofs.lemmas.List.{length-set}
 use Rattle.js_frames.proofs.slots.Slots.push_all.Goals as goal
 

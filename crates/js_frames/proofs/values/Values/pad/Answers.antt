@@ -1,7 +1,7 @@
 use Rattle.std.proofs.Common.{◌≡◌, ◌++◌, ◌∷◌, [], ◌-◌, ◌∙◌, ap, length, take, replicate, arith, inr}
 use Rattle.std.proofs.lemmas.List.{length-take}
 use Rattle.js_value.specs.Value.{undefined}
-use Rattle.js_frames.proofs.Filling.{fill_more, filled}
+use Rattle.js_frames.proofs.GrowthLemmas.{fill_more, filled}
 use Rattle.js_frames.proofs.values.Values.pad.Goals as goal
 
 pub loop-preserved : goal.loop-preserved

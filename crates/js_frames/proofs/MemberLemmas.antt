@@ -19,7 +19,7 @@ use Rattle.js_ops.specs.Members.{extra_value, field_or_undefined, member_of}
 use Rattle.js_program.specs.PlainProgram as p
 use Rattle.js_meaning.specs.State as js
 use Rattle.js_meaning.specs.State.{State, gives, answered, ◌>>=◌}
-use Rattle.js_meaning.specs.Meaning.{does_node, eval, turns_of}
+use Rattle.js_meaning.specs.Meaning.{does_node, eval, iterations_of}
 use Rattle.js_meaning.proofs.Bound.{eval_begins}
 use Rattle.js_frames.specs.declared.step.Step.{Step}
 use Rattle.js_frames.specs.declared.frame.Part.{Part}
@@ -30,7 +30,7 @@ use Rattle.js_frames.specs.Fits.{StackFits}
 use Rattle.js_frames.specs.inner.Leads.{Within, Leads, waits_for, leaf_of, node_does}
 use Rattle.js_frames.specs.inner.Reading.{GaveData}
 use Rattle.js_frames.proofs.Steps.{OnlyGives, begins_one, on_ok}
-use Rattle.js_frames.proofs.Giving.{leaf_gives}
+use Rattle.js_frames.proofs.LeafLemmas.{leaf_gives}
 
 -- `data` of an event
 data_of_event : (word : List ℕ) (e : PlainEvent) (line : ℕ) (s : State) → bytes_eq word (codes "data") ≡ true → answered line (member_of (v.event e) word) s ≡ gives (extra_value e.extra) s
@@ -54,7 +54,7 @@ module _ (base : js.Ground) (old : Place) where
             let after : State = state_at (record old { fuel = old.fuel - 1 }) beside in
             let last : State = state_at (record old { fuel = old.fuel - 1 - 1 }) beside in
             begins_at part old.fuel beside (omega arith)
-            ∙ ap (λ o. does_node g (eval g) (turns_of g) o after) at
+            ∙ ap (λ o. does_node g (eval g) (iterations_of g) o after) at
             ∙ ap (λ o. o >>= λ x. answered line (member_of x word)) (begins_at variable (old.fuel - 1) beside (omega arith) ∙ only (old.fuel - 1 - 1) beside)
             ∙ data_of_event word e line last is
             ∙ (let k : old.fuel - 1 - 1 ≡ old.fuel - 2 = omega arith in ap (λ q. gives (extra_value e.extra) (state_at (record old { fuel = q }) beside)) k);

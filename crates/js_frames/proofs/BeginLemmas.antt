@@ -18,7 +18,7 @@ use Rattle.js_meaning.specs.State.{State, Setting}
 use Rattle.js_meaning.specs.Variables.{undeclare}
 use Rattle.js_meaning.specs.Calls.{sequence}
 use Rattle.js_meaning.specs.Statements.{does_declaration}
-use Rattle.js_meaning.specs.Meaning.{does, eval, turns_of}
+use Rattle.js_meaning.specs.Meaning.{does, eval, iterations_of}
 use Rattle.js_frames.specs.declared.step.Step.{Step}
 use Rattle.js_frames.specs.declared.step.Step.TheVariants.{Begin}
 use Rattle.js_frames.specs.declared.frame.Sequence.TheVariants.{Block}
@@ -53,7 +53,7 @@ module _ (g : Setting) (n : ℕ) (found : Node) (at : slice_get g.base.program.n
     second_waits first part get =
         parts_wait g (slice_get g.base.program.nodes n) (with_form form) node_is (plain_value first ∷ []) part get (rest g (Second n first)) (λ x now. refl) s
 
-    long_form : (x : NodeForm) → IsLong (plain_node_form x) → parts_from g (Some (with_form x)) [] s ≡ does g (eval g) (turns_of g) found.line (plain_node_form x) s
+    long_form : (x : NodeForm) → IsLong (plain_node_form x) → parts_from g (Some (with_form x)) [] s ≡ does g (eval g) (iterations_of g) found.line (plain_node_form x) s
     long_form (f.List ns) h = refl
     long_form (f.Fields ks ns) h = refl
     long_form (f.Call x ns) h = refl
@@ -62,7 +62,7 @@ module _ (g : Setting) (n : ℕ) (found : Node) (at : slice_get g.base.program.n
     long_form (f.FloorDivide a b ns) h = refl
     long_form _ h = absurd h
 
-    pub long_begins : (done : List PlainValue) → done ≡ [] → IsLong (plain_node_form form) → parts_from g (slice_get g.base.program.nodes n) done s ≡ does g (eval g) (turns_of g) found.line (plain_node_form form) s
+    pub long_begins : (done : List PlainValue) → done ≡ [] → IsLong (plain_node_form form) → parts_from g (slice_get g.base.program.nodes n) done s ≡ does g (eval g) (iterations_of g) found.line (plain_node_form form) s
     long_begins done e h = ap (λ vs. parts_from g (slice_get g.base.program.nodes n) vs s) e ∙ ap (λ o. parts_from g o [] s) node_is ∙ long_form form h
 
     -- a form with one or two parts, but no operator
@@ -72,13 +72,13 @@ module _ (g : Setting) (n : ℕ) (found : Node) (at : slice_get g.base.program.n
     IsPlain (f.Unary sign x) = Unit {0}
     IsPlain _ = ⊥
 
-    plain_form : (x : NodeForm) → IsPlain x → parts_from g (Some (with_form x)) [] s ≡ does g (eval g) (turns_of g) found.line (plain_node_form x) s
+    plain_form : (x : NodeForm) → IsPlain x → parts_from g (Some (with_form x)) [] s ≡ does g (eval g) (iterations_of g) found.line (plain_node_form x) s
     plain_form (f.Member x w) h = refl
     plain_form (f.Index x i) h = refl
     plain_form (f.Unary sign x) h = refl
     plain_form _ h = absurd h
 
-    pub short_begins : (part : ℕ) → IsPlain form → slice_get (parts_of (plain_node_form form)) 0 ≡ Some part → resume g (Waiting (First n)) (eval g part s) ≡ does g (eval g) (turns_of g) found.line (plain_node_form form) s
+    pub short_begins : (part : ℕ) → IsPlain form → slice_get (parts_of (plain_node_form form)) 0 ≡ Some part → resume g (Waiting (First n)) (eval g part s) ≡ does g (eval g) (iterations_of g) found.line (plain_node_form form) s
     unfolding rest resume
     short_begins part h get =
         parts_wait g (slice_get g.base.program.nodes n) (with_form form) node_is [] part get (rest g (First n)) (λ x now. refl) s
@@ -86,9 +86,9 @@ module _ (g : Setting) (n : ℕ) (found : Node) (at : slice_get g.base.program.n
 
   module _ (left right : ℕ) (s : State) where
     abbrev binary_waits : Operator → Type 0
-    binary_waits o = resume g (operand_frame o right n) (eval g left s) ≡ does g (eval g) (turns_of g) found.line (p.binary o left right) s
+    binary_waits o = resume g (operand_frame o right n) (eval g left s) ≡ does g (eval g) (iterations_of g) found.line (p.binary o left right) s
 
-    both_sides : (o : Operator) → found.form ≡ f.Binary o left right → parts_from g (Some (with_form (f.Binary o left right))) [] s ≡ does g (eval g) (turns_of g) found.line (p.binary o left right) s → resume g (Waiting (First n)) (eval g left s) ≡ does g (eval g) (turns_of g) found.line (p.binary o left right) s
+    both_sides : (o : Operator) → found.form ≡ f.Binary o left right → parts_from g (Some (with_form (f.Binary o left right))) [] s ≡ does g (eval g) (iterations_of g) found.line (p.binary o left right) s → resume g (Waiting (First n)) (eval g left s) ≡ does g (eval g) (iterations_of g) found.line (p.binary o left right) s
     unfolding rest resume
     both_sides o is h =
         parts_wait g (slice_get g.base.program.nodes n) (with_form (f.Binary o left right)) (node_is (f.Binary o left right) is s) [] left refl (rest g (First n)) (λ x now. refl) s

@@ -9,9 +9,9 @@ use Rattle.js_value.specs.declared.value.Value.{Value}
 use Rattle.js_value.specs.declared.value.Value.TheVariants as value
 use Rattle.js_meaning.specs.State.{State, Setting, Outcome, ◌>>=◌, leaves, breaks}
 use Rattle.js_meaning.specs.Variables.{undeclare, set_slot}
-use Rattle.js_meaning.specs.Statements.{after_turn, perhaps, one_turn, each, each_of}
-use Rattle.js_meaning.specs.Meaning.{eval, turns_of}
-use Rattle.js_meaning.proofs.Bound.{turns_again}
+use Rattle.js_meaning.specs.Statements.{after_iteration, perhaps, one_iteration, each, each_of}
+use Rattle.js_meaning.specs.Meaning.{eval, iterations_of}
+use Rattle.js_meaning.proofs.Bound.{iterations_again}
 use Rattle.js_frames.specs.declared.frame.Loop.{Loop}
 use Rattle.js_frames.specs.declared.frame.Part.TheVariants.{Started, Tested, Between}
 use Rattle.js_frames.specs.declared.frame.Iteration.TheVariants.{OfLoop}
@@ -24,15 +24,15 @@ pub state_undeclared : (old : Place) (slots : List (Option PlainValue)) (ks : Li
 state_undeclared old slots ks b e = ap (λ ss. record (state_at old b) { slots = ss }) e ∙ sym (undeclared_slots ks (state_at old b))
 
 module _ (g : Setting) (t : Loop) (s : State) where
-  pub loop_without_test : t.test ≡ None → after_turn (eval g t.body s) (again g (OfLoop t)) ≡ loop g t s
+  pub loop_without_test : t.test ≡ None → after_iteration (eval g t.body s) (again g (OfLoop t)) ≡ loop g t s
   unfolding again
   loop_without_test e =
-      ap (λ q. one_turn (eval g) q t.body t.next (turns_of g t.test t.body t.next) s) (sym e) ∙ sym (turns_again g t.test t.body t.next s)
+      ap (λ q. one_iteration (eval g) q t.body t.next (iterations_of g t.test t.body t.next) s) (sym e) ∙ sym (iterations_again g t.test t.body t.next s)
 
   pub loop_with_test : (n : ℕ) → t.test ≡ Some n → (eval g n s >>= rest g (Tested t)) ≡ loop g t s
   unfolding rest
   loop_with_test n e =
-      ap (λ q. one_turn (eval g) q t.body t.next (turns_of g t.test t.body t.next) s) (sym e) ∙ sym (turns_again g t.test t.body t.next s)
+      ap (λ q. one_iteration (eval g) q t.body t.next (iterations_of g t.test t.body t.next) s) (sym e) ∙ sym (iterations_again g t.test t.body t.next s)
 
   pub next_absent : t.next ≡ None → loop g t s ≡ again g (OfLoop t) s
   unfolding again
@@ -63,7 +63,7 @@ no_list ev line k body (value.Set e) s h = refl
 no_list ev line k body (value.Function c cs) s h = refl
 
 -- the element at a place
-pub next_item : (g : Setting) (k body place : ℕ) (items : ValueList) (x : PlainValue) (s : State) → slice_get (values_in items) place ≡ Some x → after_turn (eval g body (set_slot k (Some x) s)) (items_from g k body items (place + 1)) ≡ items_from g k body items place s
+pub next_item : (g : Setting) (k body place : ℕ) (items : ValueList) (x : PlainValue) (s : State) → slice_get (values_in items) place ≡ Some x → after_iteration (eval g body (set_slot k (Some x) s)) (items_from g k body items (place + 1)) ≡ items_from g k body items place s
 next_item g k body place items x s at = ap (λ l. each (eval g) k body l s) (sym (drop_at (values_in items) place x at))
 
 pub no_item : (g : Setting) (k body place : ℕ) (items : ValueList) (s : State) → slice_get (values_in items) place ≡ None → leaves s ≡ items_from g k body items place s

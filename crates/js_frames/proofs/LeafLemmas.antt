@@ -11,11 +11,11 @@ use Rattle.js_program.specs.declared.node.NodeForm.TheVariants as f
 use Rattle.js_meaning.specs.State as js
 use Rattle.js_meaning.specs.State.{gives}
 use Rattle.js_meaning.specs.Variables.{if_declared}
-use Rattle.js_meaning.specs.Meaning.{does_node, eval, turns_of}
+use Rattle.js_meaning.specs.Meaning.{does_node, eval, iterations_of}
 use Rattle.js_frames.specs.Places.{Place, setting_at, state_at}
 use Rattle.js_frames.specs.inner.Leads.{leaf_at, leaf_of}
 use Rattle.js_frames.proofs.Steps.{OnlyGives}
-use Rattle.js_frames.proofs.Declaring.{held_with}
+use Rattle.js_frames.proofs.VariableLemmas.{held_with}
 
 module _ (base : js.Ground) (m : Place) where
   module _ (n : ℕ) (x : PlainValue) where
@@ -24,11 +24,11 @@ module _ (base : js.Ground) (m : Place) where
         let g = setting_at base m in
         let s = state_at (record m { fuel = fuel }) b in
         let same : v.whole k ≡ x = cc in
-        ap (λ o. does_node g (eval g) (turns_of g) o s) at ∙ ap (λ y. gives y s) same
+        ap (λ o. does_node g (eval g) (iterations_of g) o s) at ∙ ap (λ y. gives y s) same
     form_gives line (p.read variable) at e = λ fuel b.
         let g = setting_at base m in
         let s = state_at (record m { fuel = fuel }) b in
-        ap (λ o. does_node g (eval g) (turns_of g) o s) at ∙ ap (λ o. if_declared line o gives s) (held_with base variable m fuel b ∙ e)
+        ap (λ o. does_node g (eval g) (iterations_of g) o s) at ∙ ap (λ o. if_declared line o gives s) (held_with base variable m fuel b ∙ e)
     form_gives line _ at e = let no : None ≡ Some x = e in cc
 
     node_gives : (o : Option PlainNode) → slice_get base.program.nodes n ≡ o → leaf_of base m o ≡ Some x → OnlyGives base m n x
