@@ -8,7 +8,7 @@ use Rattle.js_tree.specs.Plain.{PlainExpr, PlainStmt}
 use Rattle.js_tree.specs.Views.{plain_expr, plain_stmt}
 use Rattle.js_tree.specs.Nesting.{nesting, stmt_nesting}
 use Rattle.js_grammar.specs.Reading as read
-use Rattle.js_grammar.specs.Reading.{Turn, again}
+use Rattle.js_grammar.specs.Reading.{Iteration, again}
 use Rattle.js_cursor.specs.declared.cursor.Cursor.{Cursor}
 use Rattle.js_cursor.specs.declared.stop.Stop.{Stop}
 use Rattle.js_cursor.specs.declared.stop.Stop.TheVariants.{NoTree, Memory}
@@ -18,7 +18,7 @@ use Rattle.js_cursor.specs.declared.found.Found.{Found}
 abbrev pub left : Cursor → List Token
 left cursor = cursor.rest.now
 
--- a tree by its view, with the nesting of that, which is within the limit; at least so many tokens are taken
+-- a tree by its view, with the nesting of that, which is within the limit; at least this many tokens are taken
 abbrev pub IsRead : {A B : Type 0} → (B → A) → (A → ℕ) → (List Token → read.Found A) → ℕ → ℕ → Cursor →
     Cursor → Result (Found B) Stop → Type 0
 IsRead view deep reads limit takes old new (Ok found) = record {
@@ -38,17 +38,17 @@ abbrev pub IsStmt : (List Token → read.Found PlainStmt) → ℕ → Cursor →
     Result (Found Stmt) Stop → Type 0
 IsStmt reads limit = IsRead plain_stmt stmt_nesting reads limit 1
 
--- the same of one turn of a chain
-abbrev pub IsTurn : (List Token → Option (Turn PlainExpr)) → ℕ → Cursor → Cursor →
+-- the same of one iteration of a chain
+abbrev pub IsIteration : (List Token → Option (Iteration PlainExpr)) → ℕ → Cursor → Cursor →
     Result (Found Expr) Stop → Type 0
-IsTurn turns limit old new (Ok found) = record {
-  read : turns (left old) ≡ Some (again (plain_expr found.tree) (left new));
+IsIteration iterations limit old new (Ok found) = record {
+  read : iterations (left old) ≡ Some (again (plain_expr found.tree) (left new));
   measured : found.depth ≡ nesting (plain_expr found.tree);
   within : found.depth ≤ limit;
   taken : 1 + length new.rest.now ≤ length old.rest.now;
 }
-IsTurn turns limit old new (Err (NoTree n)) = turns (left old) ≡ None
-IsTurn turns limit old new (Err Memory) = Unit {0}
+IsIteration iterations limit old new (Err (NoTree n)) = iterations (left old) ≡ None
+IsIteration iterations limit old new (Err Memory) = Unit {0}
 
 -- the same of what has no nesting of its own
 abbrev pub IsGiven : {A B : Type 0} → (B → A) → (List Token → read.Found A) → Cursor → Cursor →

@@ -9,8 +9,8 @@ use js_tree::Name;
 
 impl<'a> Cursor<'a> {
     /// Names separated by commas, and `)`.
-    #[tactic(auto, using(crate::proofs::Loops::params_turn, crate::proofs::Loops::next_param_none))]
-    pub fn parameters(&mut self) -> Result<Vec<Name>, Stop>
+    #[tactic(auto, using(crate::proofs::Loops::params_iteration, crate::proofs::Loops::next_param_none))]
+    fn parameters(&mut self) -> Result<Vec<Name>, Stop>
         ensures { IsGiven (λ names. names.items) params self.old self.new result }
     {
         let mut names = Vec::new(self.alloc);

@@ -28,17 +28,17 @@ use Rattle.js_grammar.specs.Grammar.{Level, Operators, Assignment, Params, param
 use Rattle.js_grammar.specs.Reading as read
 use Rattle.js_grammar.specs.Expressions as exprs
 use Rattle.js_grammar.specs.Statements as stmts
-use Rattle.js_grammar.specs.Reading.{Found, and_then, within, ended_rest, ended, Turn, again, done, run}
+use Rattle.js_grammar.specs.Reading.{Found, and_then, within, ended_rest, ended, Iteration, again, done, run}
 use Rattle.js_grammar.specs.Reader.{readers}
 use Rattle.js_grammar.proofs.Marks.{is-same}
-use Rattle.js_grammar.proofs.Steps.{weaker, if-gives, then-gives, after-gives, some-gives, after_some-gives, within-gives, TurnGives, Shortens, run-turn}
+use Rattle.js_grammar.proofs.Steps.{weaker, if-gives, then-gives, after-gives, some-gives, after_some-gives, within-gives, IterationGives, Shortens, run-iteration}
 use Rattle.js_grammar.proofs.Shorter.{spells_shorter, elements_shorter, field_shorter, declarator_shorter, statement_shorter, item_shorter}
 use Rattle.js_grammar.proofs.Sound.{readers-sound, elements-sound, field_at-sound, declarator-sound, item-sound}
 
--- each turn takes a token
+-- each iteration takes a token
 
-abbrev Takes : {S : Type 0} → List Token → Turn S → Type 0
-Takes {S} ts t = TurnGives {S = S} (λ z r. length r < length ts) (λ z r. Unit {0}) t
+abbrev Takes : {S : Type 0} → List Token → Iteration S → Type 0
+Takes {S} ts t = IterationGives {S = S} (λ z r. length r < length ts) (λ z r. Unit {0}) t
 
 next_param-short : (xs : List Name) (t : Token) (r : List Token) → OfSome (Takes (t ∷ r)) (read.next_param xs r)
 next_param-short xs t [] = tt
@@ -361,11 +361,11 @@ module _ (n : ℕ) where
 
 params-read : {ts r : List Token} {xs : List Name} → Params ts xs r → (acc : List Name) → run read.params_step acc ts ≡ Some (acc ++ xs, r)
 params-read (params_none {t = t} {rest = rest} h) acc =
-    run-turn read.params_step params_step-short acc (t ∷ rest) ∙ rw (h, append-nil) refl
+    run-iteration read.params_step params_step-short acc (t ∷ rest) ∙ rw (h, append-nil) refl
 params-read (params_last {t = t} {u = u} {rest = rest} {x = x} h k) acc =
-    run-turn read.params_step params_step-short acc (t ∷ (u ∷ rest)) ∙ rw (named-sort t x h, h, k) refl
+    run-iteration read.params_step params_step-short acc (t ∷ (u ∷ rest)) ∙ rw (named-sort t x h, h, k) refl
 params-read (params_more {t = t} {u = u} {ts = ts} {rest = rest} {x = x} {xs = xs} h k d) acc =
-    run-turn read.params_step params_step-short acc (t ∷ (u ∷ ts)) ∙ rw (named-sort t x h, h, k) (params-read d (acc ++ x ∷ []) ∙ rw append_assoc refl)
+    run-iteration read.params_step params_step-short acc (t ∷ (u ∷ ts)) ∙ rw (named-sort t x h, h, k) (params-read d (acc ++ x ∷ []) ∙ rw append_assoc refl)
 
 header-read : {ts r : List Token} {xs : List Name} → Header ts xs r → read.header ts ≡ Some (xs, r)
 header-read (header_name h k) = rw (h, k) refl
@@ -392,14 +392,14 @@ mutual
   spells-read (fields_in h d) (suc n) w = rw (h, fields-read d n (omega arith) []) refl
   spells-read (function_in h o d k) (suc n) w = rw (h, opening-read o, statements-read d n (omega arith) [], k) refl
   spells-read (calls {ts = ts} {rest = rest} {e = e} d h) (suc n) w =
-      called-read d n w ∙ (run-turn (exprs.called_step n (readers n) (line_of ts)) (called_step-short n (line_of ts)) e rest ∙ rw (called_step-stop n (line_of ts) e rest h) refl)
+      called-read d n w ∙ (run-iteration (exprs.called_step n (readers n) (line_of ts)) (called_step-short n (line_of ts)) e rest ∙ rw (called_step-stop n (line_of ts) e rest h) refl)
   spells-read (no_sign {ts = ts} h k d) (suc n) w = signed-stop n ts h k ∙ spells-read d (suc n) w
   spells-read (signed h d) (suc n) w = rw (h, spells-read d n (omega arith)) refl
   spells-read (update_before {t = t} {s = s} h k) (suc n) w = rw (step_unsigned t s h, h, k) refl
   spells-read (update_after {t = t} {x = x} h k l) (suc n) w =
       rw (name_unsigned t (named-sort t x h), name_unstepped t (named-sort t x h), h, k, l) refl
   spells-read (operators {k = k} {ts = ts} {rest = rest} {e = e} d h) (suc n) w =
-      operated-read d n w ∙ (run-turn (exprs.operated_step n (readers n) (line_of ts) k) (operated_step-short n (line_of ts) k) e rest ∙ rw (operated_step-stop n (line_of ts) k e rest h) refl)
+      operated-read d n w ∙ (run-iteration (exprs.operated_step n (readers n) (line_of ts) k) (operated_step-short n (line_of ts) k) e rest ∙ rw (operated_step-stop n (line_of ts) k e rest h) refl)
   spells-read (no_choice {ts = ts} {rest = rest} {e = e} d h) (suc n) w =
       ap (λ (o : Found PlainExpr). and_then o (exprs.choice_after n (readers n) (line_of ts))) (spells-read d (suc n) w) ∙ choice_alone n (line_of ts) e rest h
   spells-read (choice {ts = ts} {ms = ms} {ns = ns} {a = a} {b = b} {c = c} d h f k g) (suc n) w =
@@ -418,33 +418,33 @@ mutual
   called-read {ts = ts} (called_first d) n w = ap (λ (o : Found PlainExpr). and_then o (run (exprs.called_step n (readers n) (line_of ts)))) (spells-read d (suc n) w)
   called-read {ts = ts} (called_member {t = t} {u = u} {rest = rest} {e = e} d h k) n w =
       let fits : one_less_if (is_object_name e) (nesting e) ≤ n = omega arith in
-      called-read d n (less-back (is_object_name e) (nesting e) n fits) ∙ (run-turn (exprs.called_step n (readers n) (line_of ts)) (called_step-short n (line_of ts)) e (t ∷ (u ∷ rest)) ∙
+      called-read d n (less-back (is_object_name e) (nesting e) n fits) ∙ (run-iteration (exprs.called_step n (readers n) (line_of ts)) (called_step-short n (line_of ts)) e (t ∷ (u ∷ rest)) ∙
       rw (h, le-leb (one_less_if (is_object_name e) (nesting e)) n fits, k) refl)
   called-read {ts = ts} (called_index {t = t} {ms = ms} {e = e} d h f k) n w =
-      called-read d n (omega arith) ∙ (run-turn (exprs.called_step n (readers n) (line_of ts)) (called_step-short n (line_of ts)) e (t ∷ ms) ∙
+      called-read d n (omega arith) ∙ (run-iteration (exprs.called_step n (readers n) (line_of ts)) (called_step-short n (line_of ts)) e (t ∷ ms) ∙
       rw (h, le-leb (nesting e) n (omega arith), spells-read f n (omega arith), k) refl)
   called-read {ts = ts} (called_with {t = t} {ms = ms} {e = e} d h f) n w =
       let fits : one_less_if (is_member e) (nesting e) ≤ n = omega arith in
-      called-read d n (less-back (is_member e) (nesting e) n fits) ∙ (run-turn (exprs.called_step n (readers n) (line_of ts)) (called_step-short n (line_of ts)) e (t ∷ ms) ∙
+      called-read d n (less-back (is_member e) (nesting e) n fits) ∙ (run-iteration (exprs.called_step n (readers n) (line_of ts)) (called_step-short n (line_of ts)) e (t ∷ ms) ∙
       rw (h, le-leb (one_less_if (is_member e) (nesting e)) n fits, elements-read f refl n (omega arith) []) refl)
 
   operated-read : {k : ℕ} {ts r : List Token} {e : PlainExpr} → Operated k ts e r → (n : ℕ) → nesting e ≤ suc n →
       and_then (exprs.operators n (readers n) k ts) (run (exprs.operated_step n (readers n) (line_of ts) k)) ≡ run (exprs.operated_step n (readers n) (line_of ts) k) e r
   operated-read {k = k} {ts = ts} (operated_first d) n w = ap (λ (o : Found PlainExpr). and_then o (run (exprs.operated_step n (readers n) (line_of ts) k))) (spells-read d (suc n) w)
   operated-read {ts = ts} (operated_more {k = k} {t = t} {ms = ms} {a = a} d h f) n w =
-      operated-read d n (omega arith) ∙ (run-turn (exprs.operated_step n (readers n) (line_of ts) k) (operated_step-short n (line_of ts) k) a (t ∷ ms) ∙
+      operated-read d n (omega arith) ∙ (run-iteration (exprs.operated_step n (readers n) (line_of ts) k) (operated_step-short n (line_of ts) k) a (t ∷ ms) ∙
       rw (h, le-leb (nesting a) n (omega arith), spells-read f n (omega arith)) refl)
 
   elements-read : {c : Sort} {ts r : List Token} {es : List PlainExpr} → Elements c ts es r → same c Comma ≡ false →
       (n : ℕ) → deepest (exprs_of es) ≤ n → (acc : List PlainExpr) →
       run (exprs.elements_step n (readers n) c) acc ts ≡ Some (acc ++ es, r)
   elements-read (elements_none {c = c} {t = t} {rest = rest} h) b n w acc =
-      run-turn (exprs.elements_step n (readers n) c) (elements_step-short n c) acc (t ∷ rest) ∙ rw (is-same c t h, append-nil) refl
+      run-iteration (exprs.elements_step n (readers n) c) (elements_step-short n c) acc (t ∷ rest) ∙ rw (is-same c t h, append-nil) refl
   elements-read (elements_last {c = c} {t = t} {ts = ts} {rest = rest} {e = e} a d h) b n w acc =
-      run-turn (exprs.elements_step n (readers n) c) (elements_step-short n c) acc ts ∙
+      run-iteration (exprs.elements_step n (readers n) c) (elements_step-short n c) acc ts ∙
       rw (elements_step-goes n c acc ts e (t ∷ rest) a (spells_shorter d) (spells-read d n (omega arith)), is-same c t h) refl
   elements-read (elements_more {c = c} {t = t} {ts = ts} {ms = ms} {e = e} {es = es} a d h f) b n w acc =
-      run-turn (exprs.elements_step n (readers n) c) (elements_step-short n c) acc ts ∙
+      run-iteration (exprs.elements_step n (readers n) c) (elements_step-short n c) acc ts ∙
       rw (elements_step-goes n c acc ts e (t ∷ ms) a (spells_shorter d) (spells-read d n (omega arith)), h, b)
       (elements-read f b n (omega arith) (acc ++ e ∷ []) ∙ rw append_assoc refl)
 
@@ -456,11 +456,11 @@ mutual
   fields-read : {ts r : List Token} {fs : List PlainField} → Fields ts fs r → (n : ℕ) → deepest_field (fields_of fs) ≤ n → (acc : List PlainField) →
       run (exprs.fields_step n (readers n)) acc ts ≡ Some (acc ++ fs, r)
   fields-read (fields_none {t = t} {rest = rest} h) n w acc =
-      run-turn (exprs.fields_step n (readers n)) (fields_step-short n) acc (t ∷ rest) ∙ rw (h, append-nil) refl
+      run-iteration (exprs.fields_step n (readers n)) (fields_step-short n) acc (t ∷ rest) ∙ rw (h, append-nil) refl
   fields-read (fields_last {t = t} {ts = ts} {rest = rest} {f = f} a d h) n w acc =
-      run-turn (exprs.fields_step n (readers n)) (fields_step-short n) acc ts ∙ rw (fields_step-goes d a n (omega arith) acc, h) refl
+      run-iteration (exprs.fields_step n (readers n)) (fields_step-short n) acc ts ∙ rw (fields_step-goes d a n (omega arith) acc, h) refl
   fields-read (fields_more {t = t} {ts = ts} {ms = ms} {f = f} {fs = fs} a d h g) n w acc =
-      run-turn (exprs.fields_step n (readers n)) (fields_step-short n) acc ts ∙
+      run-iteration (exprs.fields_step n (readers n)) (fields_step-short n) acc ts ∙
       rw (fields_step-goes d a n (omega arith) acc, h) (fields-read g n (omega arith) (acc ++ f ∷ []) ∙ rw append_assoc refl)
 
   declarator-read : {k : DeclareKind} {ts r : List Token} {d : PlainDeclarator} → Declarator k ts d r → (n : ℕ) → perhaps_nesting d.value ≤ n →
@@ -472,10 +472,10 @@ mutual
   declarators-read : {k : DeclareKind} {ts r : List Token} {ds : List PlainDeclarator} → Declarators k ts ds r → (n : ℕ) → deepest_declarator (declarators_of ds) ≤ n →
       (acc : List PlainDeclarator) → run (exprs.declarators_step n (readers n) k) acc ts ≡ Some (acc ++ ds, r)
   declarators-read (declarators_last {k = k} {ts = ts} {rest = rest} {d = d} s h) n w acc =
-      run-turn (exprs.declarators_step n (readers n) k) (declarators_step-short n k) acc ts ∙
+      run-iteration (exprs.declarators_step n (readers n) k) (declarators_step-short n k) acc ts ∙
       rw (declarator-read s n (omega arith), next_declarator_stop n (acc ++ d ∷ []) rest h) refl
   declarators-read (declarators_more {k = k} {t = t} {ts = ts} {ms = ms} {d = d} s h f) n w acc =
-      run-turn (exprs.declarators_step n (readers n) k) (declarators_step-short n k) acc ts ∙
+      run-iteration (exprs.declarators_step n (readers n) k) (declarators_step-short n k) acc ts ∙
       rw (declarator-read s n (omega arith), h) (declarators-read f n (omega arith) (acc ++ d ∷ []) ∙ rw append_assoc refl)
 
   start-read : {ts r : List Token} {s : PlainStart} → Start ts s r → (n : ℕ) → start_nesting s ≤ n → stmts.start n (readers n) ts ≡ Some (s, r)
@@ -494,9 +494,9 @@ mutual
   pub statements-read : {ts r : List Token} {ss : List PlainStmt} → Statements ts ss r → (n : ℕ) → deepest_stmt (stmts_of ss) ≤ n → (acc : List PlainStmt) →
       run (exprs.statements_step n (readers n)) acc ts ≡ Some (acc ++ ss, r)
   statements-read {ts = ts} (statements_end h) n w acc =
-      run-turn (exprs.statements_step n (readers n)) (statements_step-short n) acc ts ∙ rw (h, append-nil) refl
+      run-iteration (exprs.statements_step n (readers n)) (statements_step-short n) acc ts ∙ rw (h, append-nil) refl
   statements-read {ts = ts} (statements_more {s = s} h d f) n w acc =
-      run-turn (exprs.statements_step n (readers n)) (statements_step-short n) acc ts ∙
+      run-iteration (exprs.statements_step n (readers n)) (statements_step-short n) acc ts ∙
       rw (h, statement-read d n (omega arith)) (statements-read f n (omega arith) (acc ++ s ∷ []) ∙ rw append_assoc refl)
 
   body-read : {ts r : List Token} {s : PlainStmt} → Body ts s r → (n : ℕ) → stmt_nesting s ≤ n → stmts.body_at n (readers n) ts ≡ Some (s, r)
@@ -536,7 +536,7 @@ item-read (item_function h k o d l) n w = rw (h, k, opening-read o, statements-r
 
 pub items-read : {ts : List Token} {is : List PlainItem} → SpellsTree ts is → (n : ℕ) → deepest_item is ≤ suc n → (acc : List PlainItem) →
     run (stmts.items_step n (readers n)) acc ts ≡ Some (acc ++ is, [])
-items-read tree_end n w acc = run-turn (stmts.items_step n (readers n)) (items_step-short n) acc [] ∙ rw append-nil refl
+items-read tree_end n w acc = run-iteration (stmts.items_step n (readers n)) (items_step-short n) acc [] ∙ rw append-nil refl
 items-read (tree_more {ts = ts} {ms = ms} {i = i} d f) n w acc =
-    run-turn (stmts.items_step n (readers n)) (items_step-short n) acc ts ∙
+    run-iteration (stmts.items_step n (readers n)) (items_step-short n) acc ts ∙
     rw (items_step-goes n acc ts i ms (item_shorter d) (item-read d n (omega arith))) (items-read f n (omega arith) (acc ++ i ∷ []) ∙ rw append_assoc refl)

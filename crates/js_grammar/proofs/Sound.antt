@@ -25,11 +25,11 @@ use Rattle.js_grammar.specs.Grammar.{Level, Primary, Calls, Operators, Choice, A
 use Rattle.js_grammar.specs.Reading as read
 use Rattle.js_grammar.specs.Expressions as exprs
 use Rattle.js_grammar.specs.Statements as stmts
-use Rattle.js_grammar.specs.Reading.{Turn}
+use Rattle.js_grammar.specs.Reading.{Iteration}
 use Rattle.js_grammar.specs.Expressions.{Readers}
 use Rattle.js_grammar.specs.Reader.{readers}
 use Rattle.js_grammar.proofs.Marks.{is-true}
-use Rattle.js_grammar.proofs.Steps.{weaker, if-gives, then-gives, after-gives, some-gives, after_some-gives, within-gives, ended-gives, TurnGives, run-gives}
+use Rattle.js_grammar.proofs.Steps.{weaker, if-gives, then-gives, after-gives, some-gives, after_some-gives, within-gives, ended-gives, IterationGives, run-gives}
 
 abbrev pub ReadsExpr : ℕ → Level → List Token → PlainExpr → List Token → Type 0
 ReadsExpr room l ts e r = Spells l ts e r × (nesting e ≤ room)
@@ -47,20 +47,20 @@ module _ (ts : List Token) where
   ParamsSoFar xs r = (zs : List Name) (m : List Token) → Params r zs m → Params ts (xs ++ zs) m
 
   next_param-sound : (xs : List Name) (t : Token) (x : Name) (r : List Token) → ParamsSoFar xs (t ∷ r) → named t ≡ Some x →
-      OfSome (TurnGives ParamsSoFar (Params ts)) (read.next_param (xs ++ x ∷ []) r)
+      OfSome (IterationGives ParamsSoFar (Params ts)) (read.next_param (xs ++ x ∷ []) r)
   next_param-sound xs t x [] i e = tt
   next_param-sound xs t x (u ∷ r) i e =
-      if-gives (TurnGives ParamsSoFar (Params ts)) (is RightParen u) _ _ (λ h. i (x ∷ []) r (params_last e (is-true RightParen u h)))
-      (λ _. if-gives (TurnGives ParamsSoFar (Params ts)) (is Comma u) _ _
+      if-gives (IterationGives ParamsSoFar (Params ts)) (is RightParen u) _ _ (λ h. i (x ∷ []) r (params_last e (is-true RightParen u h)))
+      (λ _. if-gives (IterationGives ParamsSoFar (Params ts)) (is Comma u) _ _
       (λ h zs m d. rw append_assoc (i (x ∷ zs) m (params_more e (is-true Comma u h) d)))
       (λ h. tt))
 
-  params_step-sound : (xs : List Name) (r : List Token) → ParamsSoFar xs r → OfSome (TurnGives ParamsSoFar (Params ts)) (read.params_step xs r)
+  params_step-sound : (xs : List Name) (r : List Token) → ParamsSoFar xs r → OfSome (IterationGives ParamsSoFar (Params ts)) (read.params_step xs r)
   params_step-sound xs [] i = tt
   params_step-sound xs (t ∷ r) i =
-      if-gives (TurnGives ParamsSoFar (Params ts)) (is RightParen t) _ _
+      if-gives (IterationGives ParamsSoFar (Params ts)) (is RightParen t) _ _
       (λ h. let d = i [] r (params_none (is-true RightParen t h)) in rw append-nil at d)
-      (λ _. some-gives (TurnGives ParamsSoFar (Params ts)) (named t) _ (λ x e. next_param-sound xs t x r i e))
+      (λ _. some-gives (IterationGives ParamsSoFar (Params ts)) (named t) _ (λ x e. next_param-sound xs t x r i e))
 
   pub params-sound : OfSome (λ x. Params ts x.0 x.1) (read.params ts)
   params-sound = run-gives ParamsSoFar (Params ts) read.params_step params_step-sound [] ts (λ zs m d. d)
@@ -150,22 +150,22 @@ module _ (room : ℕ) (inner : Readers)
 
   next_element-sound : (c : Sort) (ts : List Token) (es : List PlainExpr) (ms : List Token) (e : PlainExpr) (r : List Token) →
       starts c ms ≡ false → ExprsSoFar c ts es ms → ReadsExpr room Assignment ms e r →
-      OfSome (TurnGives (ExprsSoFar c ts) (AllExprs c ts)) (exprs.next_element room inner c (es ++ e ∷ []) r)
+      OfSome (IterationGives (ExprsSoFar c ts) (AllExprs c ts)) (exprs.next_element room inner c (es ++ e ∷ []) r)
   next_element-sound c ts es ms e [] b i s = tt
   next_element-sound c ts es ms e (u ∷ r) b i s =
-      if-gives (TurnGives (ExprsSoFar c ts) (AllExprs c ts)) (is c u) _ _
+      if-gives (IterationGives (ExprsSoFar c ts) (AllExprs c ts)) (is c u) _ _
       (λ h. (i.0 (e ∷ []) r (elements_last b s.0 (is-true c u h)), deepest-more room es e i.1 s.1))
-      (λ _. if-gives (TurnGives (ExprsSoFar c ts) (AllExprs c ts)) (is Comma u) _ _
+      (λ _. if-gives (IterationGives (ExprsSoFar c ts) (AllExprs c ts)) (is Comma u) _ _
       (λ h. (λ zs m d. rw append_assoc (i.0 (e ∷ zs) m (elements_more b s.0 (is-true Comma u h) d)), deepest-more room es e i.1 s.1))
       (λ h. tt))
 
   elements_step-sound : (c : Sort) (ts : List Token) (es : List PlainExpr) (r : List Token) → ExprsSoFar c ts es r →
-      OfSome (TurnGives (ExprsSoFar c ts) (AllExprs c ts)) (exprs.elements_step room inner c es r)
+      OfSome (IterationGives (ExprsSoFar c ts) (AllExprs c ts)) (exprs.elements_step room inner c es r)
   elements_step-sound c ts es [] i = tt
   elements_step-sound c ts es (t ∷ r) i =
-      if-gives (TurnGives (ExprsSoFar c ts) (AllExprs c ts)) (is c t) _ _
+      if-gives (IterationGives (ExprsSoFar c ts) (AllExprs c ts)) (is c t) _ _
       (λ h. let d = i.0 [] r (elements_none (is-true c t h)) in (rw append-nil at d, i.1))
-      (λ h. then-gives (ReadsExpr room Assignment (t ∷ r)) (TurnGives (ExprsSoFar c ts) (AllExprs c ts)) (inner.expr Assignment (t ∷ r)) _
+      (λ h. then-gives (ReadsExpr room Assignment (t ∷ r)) (IterationGives (ExprsSoFar c ts) (AllExprs c ts)) (inner.expr Assignment (t ∷ r)) _
       (by_expr Assignment (t ∷ r)) (λ e m s. next_element-sound c ts es (t ∷ r) e m h i s))
 
   pub elements-sound : (c : Sort) (ts : List Token) → OfSome (λ x. AllExprs c ts x.0 x.1) (exprs.elements room inner c ts)
@@ -202,22 +202,22 @@ module _ (room : ℕ) (inner : Readers)
 
   next_field-sound : (ts : List Token) (fs : List PlainField) (ms : List Token) (f : PlainField) (r : List Token) →
       starts RightBrace ms ≡ false → FieldsSoFar ts fs ms → ReadsField ms f r →
-      OfSome (TurnGives (FieldsSoFar ts) (AllFields ts)) (exprs.next_field room inner (fs ++ f ∷ []) r)
+      OfSome (IterationGives (FieldsSoFar ts) (AllFields ts)) (exprs.next_field room inner (fs ++ f ∷ []) r)
   next_field-sound ts fs ms f [] b i s = tt
   next_field-sound ts fs ms f (u ∷ r) b i s =
-      if-gives (TurnGives (FieldsSoFar ts) (AllFields ts)) (is RightBrace u) _ _
+      if-gives (IterationGives (FieldsSoFar ts) (AllFields ts)) (is RightBrace u) _ _
       (λ h. (i.0 (f ∷ []) r (fields_last b s.0 (is-true RightBrace u h)), deepest_field-more room fs f i.1 s.1))
-      (λ _. if-gives (TurnGives (FieldsSoFar ts) (AllFields ts)) (is Comma u) _ _
+      (λ _. if-gives (IterationGives (FieldsSoFar ts) (AllFields ts)) (is Comma u) _ _
       (λ h. (λ zs m d. rw append_assoc (i.0 (f ∷ zs) m (fields_more b s.0 (is-true Comma u h) d)), deepest_field-more room fs f i.1 s.1))
       (λ h. tt))
 
   fields_step-sound : (ts : List Token) (fs : List PlainField) (r : List Token) → FieldsSoFar ts fs r →
-      OfSome (TurnGives (FieldsSoFar ts) (AllFields ts)) (exprs.fields_step room inner fs r)
+      OfSome (IterationGives (FieldsSoFar ts) (AllFields ts)) (exprs.fields_step room inner fs r)
   fields_step-sound ts fs [] i = tt
   fields_step-sound ts fs (t ∷ r) i =
-      if-gives (TurnGives (FieldsSoFar ts) (AllFields ts)) (is RightBrace t) _ _
+      if-gives (IterationGives (FieldsSoFar ts) (AllFields ts)) (is RightBrace t) _ _
       (λ h. let d = i.0 [] r (fields_none (is-true RightBrace t h)) in (rw append-nil at d, i.1))
-      (λ h. then-gives (ReadsField (t ∷ r)) (TurnGives (FieldsSoFar ts) (AllFields ts)) (exprs.field_at room inner t r) _
+      (λ h. then-gives (ReadsField (t ∷ r)) (IterationGives (FieldsSoFar ts) (AllFields ts)) (exprs.field_at room inner t r) _
       (field_at-sound t r) (λ f m s. next_field-sound ts fs (t ∷ r) f m h i s))
 
   pub fields-sound : (ts : List Token) → OfSome (λ x. AllFields ts x.0 x.1) (exprs.fields room inner ts)
@@ -250,17 +250,17 @@ module _ (room : ℕ) (inner : Readers)
 
   next_declarator-sound : (k : DeclareKind) (ts : List Token) (ds : List PlainDeclarator) (ms : List Token) (d : PlainDeclarator) (r : List Token) →
       DeclaratorsSoFar k ts ds ms → ReadsDeclarator k ms d r →
-      OfSome (TurnGives (DeclaratorsSoFar k ts) (AllDeclarators k ts)) (exprs.next_declarator room inner (ds ++ d ∷ []) r)
+      OfSome (IterationGives (DeclaratorsSoFar k ts) (AllDeclarators k ts)) (exprs.next_declarator room inner (ds ++ d ∷ []) r)
   next_declarator-sound k ts ds ms d [] i s = (i.0 (d ∷ []) [] (declarators_last s.0 refl), deepest_declarator-more room ds d i.1 s.1)
   next_declarator-sound k ts ds ms d (u ∷ r) i s =
-      if-gives (TurnGives (DeclaratorsSoFar k ts) (AllDeclarators k ts)) (is Comma u) _ _
+      if-gives (IterationGives (DeclaratorsSoFar k ts) (AllDeclarators k ts)) (is Comma u) _ _
       (λ h. (λ zs m l. rw append_assoc (i.0 (d ∷ zs) m (declarators_more s.0 (is-true Comma u h) l)), deepest_declarator-more room ds d i.1 s.1))
       (λ h. (i.0 (d ∷ []) (u ∷ r) (declarators_last s.0 h), deepest_declarator-more room ds d i.1 s.1))
 
   declarators_step-sound : (k : DeclareKind) (ts : List Token) (ds : List PlainDeclarator) (r : List Token) → DeclaratorsSoFar k ts ds r →
-      OfSome (TurnGives (DeclaratorsSoFar k ts) (AllDeclarators k ts)) (exprs.declarators_step room inner k ds r)
+      OfSome (IterationGives (DeclaratorsSoFar k ts) (AllDeclarators k ts)) (exprs.declarators_step room inner k ds r)
   declarators_step-sound k ts ds r i =
-      then-gives (ReadsDeclarator k r) (TurnGives (DeclaratorsSoFar k ts) (AllDeclarators k ts)) (exprs.declarator room inner k r) _
+      then-gives (ReadsDeclarator k r) (IterationGives (DeclaratorsSoFar k ts) (AllDeclarators k ts)) (exprs.declarator room inner k r) _
       (declarator-sound k r) (λ d m s. next_declarator-sound k ts ds r d m i s)
 
   pub declarators-sound : (k : DeclareKind) (ts : List Token) → OfSome (λ x. AllDeclarators k ts x.0 x.1) (exprs.declarators_of_kind room inner k ts)
@@ -275,11 +275,11 @@ module _ (room : ℕ) (inner : Readers)
   StmtsSoFar ts ss r = ((zs : List PlainStmt) (m : List Token) → Statements r zs m → Statements ts (ss ++ zs) m) × (deepest_stmt (stmts_of ss) ≤ room)
 
   statements_step-sound : (ts : List Token) (ss : List PlainStmt) (r : List Token) → StmtsSoFar ts ss r →
-      OfSome (TurnGives (StmtsSoFar ts) (AllStmts ts)) (exprs.statements_step room inner ss r)
+      OfSome (IterationGives (StmtsSoFar ts) (AllStmts ts)) (exprs.statements_step room inner ss r)
   statements_step-sound ts ss r i =
-      if-gives (TurnGives (StmtsSoFar ts) (AllStmts ts)) (starts_end r) _ _
+      if-gives (IterationGives (StmtsSoFar ts) (AllStmts ts)) (starts_end r) _ _
       (λ h. let d = i.0 [] r (statements_end h) in (rw append-nil at d, i.1))
-      (λ h. then-gives (ReadsStmt room r) (TurnGives (StmtsSoFar ts) (AllStmts ts)) (inner.stmt r) _ (by_stmt r)
+      (λ h. then-gives (ReadsStmt room r) (IterationGives (StmtsSoFar ts) (AllStmts ts)) (inner.stmt r) _ (by_stmt r)
       (λ s m d. (λ zs l k. rw append_assoc (i.0 (s ∷ zs) l (statements_more h d.0 k)), deepest_stmt-more room ss s i.1 d.1)))
 
   pub statements-sound : (ts : List Token) → OfSome (λ x. AllStmts ts x.0 x.1) (exprs.statements room inner ts)
@@ -332,28 +332,28 @@ module _ (room : ℕ) (inner : Readers)
   abbrev SoFar : List Token → PlainExpr → List Token → Type 0
   SoFar ts e r = Called ts e r × (nesting e ≤ suc room)
 
-  abbrev CallTurn : List Token → Turn PlainExpr → Type 0
-  CallTurn ts = TurnGives (SoFar ts) (λ a m. Expr Calls ts (a, m))
+  abbrev CallIteration : List Token → Iteration PlainExpr → Type 0
+  CallIteration ts = IterationGives (SoFar ts) (λ a m. Expr Calls ts (a, m))
 
   called_at-sound : (ts : List Token) (e : PlainExpr) (t : Token) (r : List Token) (k : Sort) → sort t ≡ k → SoFar ts e (t ∷ r) →
-      OfSome (CallTurn ts) (exprs.called_at room inner (line_of ts) e k (t ∷ r) r)
+      OfSome (CallIteration ts) (exprs.called_at room inner (line_of ts) e k (t ∷ r) r)
   called_at-sound ts e t r Dot h i =
-      within-gives (CallTurn ts) (one_less_if (is_object_name e) (nesting e)) room _ (λ w.
-      after_some-gives (λ m. Called ts e (t ∷ m)) (CallTurn ts) member_word r _ i.0
+      within-gives (CallIteration ts) (one_less_if (is_object_name e) (nesting e)) room _ (λ w.
+      after_some-gives (λ m. Called ts e (t ∷ m)) (CallIteration ts) member_word r _ i.0
       (λ u x m d k. (called_member d h k, omega (arith, w))))
   called_at-sound ts e t r LeftBracket h i =
-      within-gives (CallTurn ts) (nesting e) room _ (λ w.
-      then-gives (ReadsExpr room Assignment r) (CallTurn ts) (inner.expr Assignment r) _ (by_expr Assignment r) (λ a m s.
-      after-gives (λ z. ReadsExpr room Assignment r a z) (CallTurn ts) RightBracket m _ s
+      within-gives (CallIteration ts) (nesting e) room _ (λ w.
+      then-gives (ReadsExpr room Assignment r) (CallIteration ts) (inner.expr Assignment r) _ (by_expr Assignment r) (λ a m s.
+      after-gives (λ z. ReadsExpr room Assignment r a z) (CallIteration ts) RightBracket m _ s
       (λ u l d k. (called_index i.0 h d.0 k, omega (arith, w, d.1)))))
   called_at-sound ts e t r LeftParen h i =
-      within-gives (CallTurn ts) (one_less_if (is_member e) (nesting e)) room _ (λ w.
-      then-gives (AllExprs RightParen r) (CallTurn ts) (exprs.elements room inner RightParen r) _ (elements-sound RightParen r)
+      within-gives (CallIteration ts) (one_less_if (is_member e) (nesting e)) room _ (λ w.
+      then-gives (AllExprs RightParen r) (CallIteration ts) (exprs.elements room inner RightParen r) _ (elements-sound RightParen r)
       (λ es m s. (called_with i.0 h s.0, omega (arith, w, s.1))))
   called_at-sound ts e t r _ h i = (calls i.0 (rw h refl), i.1)
 
   called_step-sound : (ts : List Token) (e : PlainExpr) (r : List Token) → SoFar ts e r →
-      OfSome (CallTurn ts) (exprs.called_step room inner (line_of ts) e r)
+      OfSome (CallIteration ts) (exprs.called_step room inner (line_of ts) e r)
   called_step-sound ts e [] i = (calls i.0 refl, i.1)
   called_step-sound ts e (t ∷ r) i = called_at-sound ts e t r (sort t) refl i
 
@@ -397,19 +397,19 @@ module _ (room : ℕ) (inner : Readers)
   abbrev Operands : ℕ → List Token → PlainExpr → List Token → Type 0
   Operands k ts e r = Operated k ts e r × (nesting e ≤ suc room)
 
-  abbrev OperatorTurn : ℕ → List Token → Turn PlainExpr → Type 0
-  OperatorTurn k ts = TurnGives (Operands k ts) (λ e m. Expr (Operators (suc k)) ts (e, m))
+  abbrev OperatorIteration : ℕ → List Token → Iteration PlainExpr → Type 0
+  OperatorIteration k ts = IterationGives (Operands k ts) (λ e m. Expr (Operators (suc k)) ts (e, m))
 
   operated_at-sound : (k : ℕ) (ts : List Token) (a : PlainExpr) (t : Token) (r : List Token) (o : Option Operator) → operator_at k t ≡ o →
-      Operands k ts a (t ∷ r) → OfSome (OperatorTurn k ts) (exprs.operated_at room inner (line_of ts) k a o (t ∷ r) r)
+      Operands k ts a (t ∷ r) → OfSome (OperatorIteration k ts) (exprs.operated_at room inner (line_of ts) k a o (t ∷ r) r)
   operated_at-sound k ts a t r None h i = (operators i.0 (rw h refl), i.1)
   operated_at-sound k ts a t r (Some op) h i =
-      within-gives (OperatorTurn k ts) (nesting a) room _ (λ w.
-      then-gives (ReadsExpr room (Operators k) r) (OperatorTurn k ts) (inner.expr (Operators k) r) _ (by_expr (Operators k) r)
+      within-gives (OperatorIteration k ts) (nesting a) room _ (λ w.
+      then-gives (ReadsExpr room (Operators k) r) (OperatorIteration k ts) (inner.expr (Operators k) r) _ (by_expr (Operators k) r)
       (λ b m s. (operated_more i.0 h s.0, omega (arith, w, s.1))))
 
   operated_step-sound : (k : ℕ) (ts : List Token) (a : PlainExpr) (r : List Token) → Operands k ts a r →
-      OfSome (OperatorTurn k ts) (exprs.operated_step room inner (line_of ts) k a r)
+      OfSome (OperatorIteration k ts) (exprs.operated_step room inner (line_of ts) k a r)
   operated_step-sound k ts a [] i = (operators i.0 refl, i.1)
   operated_step-sound k ts a (t ∷ r) i = operated_at-sound k ts a t r (operator_at k t) refl i
 
@@ -633,16 +633,16 @@ module _ (room : ℕ) (inner : Readers)
   ItemsSoFar ts is r = ((zs : List PlainItem) → SpellsTree r zs → SpellsTree ts (is ++ zs)) × (deepest_item is ≤ suc room)
 
   items_step-sound : (ts : List Token) (is : List PlainItem) (r : List Token) → ItemsSoFar ts is r →
-      OfSome (TurnGives (ItemsSoFar ts) (AllItems ts)) (stmts.items_step room inner is r)
+      OfSome (IterationGives (ItemsSoFar ts) (AllItems ts)) (stmts.items_step room inner is r)
   items_step-sound ts is [] i = let d = i.0 [] tree_end in record { spelled = (rw append-nil at d); fits = i.1 }
   items_step-sound ts is (t ∷ r) i =
-      then-gives (ReadsItem (t ∷ r)) (TurnGives (ItemsSoFar ts) (AllItems ts)) (stmts.item room inner (t ∷ r)) _ (item-sound (t ∷ r))
+      then-gives (ReadsItem (t ∷ r)) (IterationGives (ItemsSoFar ts) (AllItems ts)) (stmts.item room inner (t ∷ r)) _ (item-sound (t ∷ r))
       (λ x m d. (λ zs k. rw append_assoc (i.0 (x ∷ zs) (tree_more d.0 k)), deepest_item-more (suc room) is x i.1 d.1))
 
   pub items-sound : (ts : List Token) → OfSome (λ x. AllItems ts x.0 x.1) (stmts.items room inner ts)
   items-sound ts = run-gives (ItemsSoFar ts) (AllItems ts) (stmts.items_step room inner) (items_step-sound ts) [] ts (λ zs d. d, omega arith)
 
--- what the readers with so much room give is spelled, and its nesting is within the room
+-- what the readers with this much room give is spelled, and its nesting is within the room
 pub record AreSound (room : ℕ) : Type 0 where
   pub expr : (l : Level) (ts : List Token) → OfSome (λ x. ReadsExpr room l ts x.0 x.1) ((readers room).expr l ts)
   pub declarators : (k : DeclareKind) (ts : List Token) → OfSome (λ x. ReadsDeclarators room k ts x.0 x.1) ((readers room).declarators k ts)

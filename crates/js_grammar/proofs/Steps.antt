@@ -9,7 +9,7 @@ use Rattle.js_lexer.specs.declared.sort.Sort.TheVariants.{Semicolon}
 use Rattle.js_grammar.specs.Sorts.{is, sort}
 use Rattle.js_grammar.specs.Ends.{end_absent}
 use Rattle.js_grammar.specs.Grammar.{End, end_mark, end_none}
-use Rattle.js_grammar.specs.Reading.{Found, and_then, after, if_some, after_some, within, Turn, again, done, next_turn, turns, run, ended_rest, ended}
+use Rattle.js_grammar.specs.Reading.{Found, and_then, after, if_some, after_some, within, Iteration, again, done, next_iteration, iterations, run, ended_rest, ended}
 use Rattle.js_grammar.proofs.Marks.{is-true}
 
 pub weaker : {B : Type 0} (P Q : B → Type 0) (o : Option B) → OfSome P o → ((b : B) → P b → Q b) → OfSome Q o
@@ -59,52 +59,52 @@ ended-gives Q b ts f g = go_on-gives (End b ts) Q (ended_rest b ts) f (ended_res
 
 -- a loop
 
-abbrev pub TurnGives : {S : Type 0} → (S → List Token → Type 0) → (S → List Token → Type 0) → Turn S → Type 0
-TurnGives I Q (again s ts) = I s ts
-TurnGives I Q (done s ts) = Q s ts
+abbrev pub IterationGives : {S : Type 0} → (S → List Token → Type 0) → (S → List Token → Type 0) → Iteration S → Type 0
+IterationGives I Q (again s ts) = I s ts
+IterationGives I Q (done s ts) = Q s ts
 
-pub next-gives : {S : Type 0} (I Q : S → List Token → Type 0) (go : S → List Token → Found S) (o : Option (Turn S)) →
-    OfSome (TurnGives I Q) o → ((s : S) (ts : List Token) → I s ts → OfSome (λ x. Q x.0 x.1) (go s ts)) → OfSome (λ x. Q x.0 x.1) (next_turn go o)
+pub next-gives : {S : Type 0} (I Q : S → List Token → Type 0) (go : S → List Token → Found S) (o : Option (Iteration S)) →
+    OfSome (IterationGives I Q) o → ((s : S) (ts : List Token) → I s ts → OfSome (λ x. Q x.0 x.1) (go s ts)) → OfSome (λ x. Q x.0 x.1) (next_iteration go o)
 next-gives I Q go None h g = tt
 next-gives I Q go (Some (again s ts)) h g = g s ts h
 next-gives I Q go (Some (done s ts)) h g = h
 
-pub turns-gives : {S : Type 0} (I Q : S → List Token → Type 0) (step : S → List Token → Option (Turn S)) →
-    ((s : S) (ts : List Token) → I s ts → OfSome (TurnGives I Q) (step s ts)) →
-    (n : ℕ) (s : S) (ts : List Token) → I s ts → OfSome (λ x. Q x.0 x.1) (turns step n s ts)
-unfolding turns
-turns-gives I Q step keep zero s ts i = tt
-turns-gives I Q step keep (suc n) s ts i = next-gives I Q (turns step n) (step s ts) (keep s ts i) (turns-gives I Q step keep n)
+pub iterations-gives : {S : Type 0} (I Q : S → List Token → Type 0) (step : S → List Token → Option (Iteration S)) →
+    ((s : S) (ts : List Token) → I s ts → OfSome (IterationGives I Q) (step s ts)) →
+    (n : ℕ) (s : S) (ts : List Token) → I s ts → OfSome (λ x. Q x.0 x.1) (iterations step n s ts)
+unfolding iterations
+iterations-gives I Q step keep zero s ts i = tt
+iterations-gives I Q step keep (suc n) s ts i = next-gives I Q (iterations step n) (step s ts) (keep s ts i) (iterations-gives I Q step keep n)
 
-pub run-gives : {S : Type 0} (I Q : S → List Token → Type 0) (step : S → List Token → Option (Turn S)) →
-    ((s : S) (ts : List Token) → I s ts → OfSome (TurnGives I Q) (step s ts)) →
+pub run-gives : {S : Type 0} (I Q : S → List Token → Type 0) (step : S → List Token → Option (Iteration S)) →
+    ((s : S) (ts : List Token) → I s ts → OfSome (IterationGives I Q) (step s ts)) →
     (s : S) (ts : List Token) → I s ts → OfSome (λ x. Q x.0 x.1) (run step s ts)
 unfolding run
-run-gives I Q step keep s ts i = turns-gives I Q step keep (suc (length ts)) s ts i
+run-gives I Q step keep s ts i = iterations-gives I Q step keep (suc (length ts)) s ts i
 
--- each turn but the last takes a token
-abbrev pub Shortens : {S : Type 0} → (S → List Token → Option (Turn S)) → Type 0
-Shortens {S} step = (s : S) (ts : List Token) → OfSome (TurnGives (λ z r. length r < length ts) (λ z r. Unit {0})) (step s ts)
+-- each iteration but the last takes a token
+abbrev pub Shortens : {S : Type 0} → (S → List Token → Option (Iteration S)) → Type 0
+Shortens {S} step = (s : S) (ts : List Token) → OfSome (IterationGives (λ z r. length r < length ts) (λ z r. Unit {0})) (step s ts)
 
-next-same : {S : Type 0} (f g : S → List Token → Found S) (n : ℕ) (o : Option (Turn S)) →
-    OfSome (TurnGives (λ z r. length r < n) (λ z r. Unit {0})) o →
-    ((s : S) (ts : List Token) → length ts < n → f s ts ≡ g s ts) → next_turn f o ≡ next_turn g o
+next-same : {S : Type 0} (f g : S → List Token → Found S) (n : ℕ) (o : Option (Iteration S)) →
+    OfSome (IterationGives (λ z r. length r < n) (λ z r. Unit {0})) o →
+    ((s : S) (ts : List Token) → length ts < n → f s ts ≡ g s ts) → next_iteration f o ≡ next_iteration g o
 next-same f g n None h e = refl
 next-same f g n (Some (again s ts)) h e = e s ts h
 next-same f g n (Some (done s ts)) h e = refl
 
-turns-enough : {S : Type 0} (step : S → List Token → Option (Turn S)) → Shortens step →
-    (n m : ℕ) (s : S) (ts : List Token) → length ts < n → length ts < m → turns step n s ts ≡ turns step m s ts
-unfolding turns
-turns-enough step short zero m s ts h k = absurd (omega arith)
-turns-enough step short (suc n) zero s ts h k = absurd (omega arith)
-turns-enough step short (suc n) (suc m) s ts h k =
-    next-same (turns step n) (turns step m) (length ts) (step s ts) (short s ts) (λ z r l. turns-enough step short n m z r (omega arith) (omega arith))
+iterations-enough : {S : Type 0} (step : S → List Token → Option (Iteration S)) → Shortens step →
+    (n m : ℕ) (s : S) (ts : List Token) → length ts < n → length ts < m → iterations step n s ts ≡ iterations step m s ts
+unfolding iterations
+iterations-enough step short zero m s ts h k = absurd (omega arith)
+iterations-enough step short (suc n) zero s ts h k = absurd (omega arith)
+iterations-enough step short (suc n) (suc m) s ts h k =
+    next-same (iterations step n) (iterations step m) (length ts) (step s ts) (short s ts) (λ z r l. iterations-enough step short n m z r (omega arith) (omega arith))
 
--- a loop is its first turn, and then the loop
-pub run-turn : {S : Type 0} (step : S → List Token → Option (Turn S)) → Shortens step → (s : S) (ts : List Token) →
-    run step s ts ≡ next_turn (run step) (step s ts)
-unfolding run turns
-run-turn step short s ts =
-    next-same (turns step (length ts)) (λ z r. turns step (suc (length r)) z r) (length ts) (step s ts) (short s ts)
-    (λ z r l. turns-enough step short (length ts) (suc (length r)) z r (omega arith) (omega arith))
+-- a loop is its first iteration, and then the loop
+pub run-iteration : {S : Type 0} (step : S → List Token → Option (Iteration S)) → Shortens step → (s : S) (ts : List Token) →
+    run step s ts ≡ next_iteration (run step) (step s ts)
+unfolding run iterations
+run-iteration step short s ts =
+    next-same (iterations step (length ts)) (λ z r. iterations step (suc (length r)) z r) (length ts) (step s ts) (short s ts)
+    (λ z r l. iterations-enough step short (length ts) (suc (length r)) z r (omega arith) (omega arith))

@@ -18,7 +18,7 @@ use Rattle.js_grammar.specs.Arrows.{starts_function}
 use Rattle.js_grammar.specs.Ends.{starts_end}
 use Rattle.js_grammar.specs.Tokens.{starts, line_of, end_before, is_const, starts_update, starts_assign}
 use Rattle.js_grammar.specs.Grammar.{Level, Primary, Calls, Operators, Choice, Assignment}
-use Rattle.js_grammar.specs.Reading.{Found, and_then, if_some, tail, after, after_some, within, Turn, run, header, opening, number_at, text_at, use_at, postfix_at, again, done}
+use Rattle.js_grammar.specs.Reading.{Found, and_then, if_some, tail, after, after_some, within, Iteration, run, header, opening, number_at, text_at, use_at, postfix_at, again, done}
 
 -- readers of what has less nesting
 pub record Readers : Type 0 where
@@ -31,12 +31,13 @@ one_more (at n line form) = at (suc n) line form
 
 -- one level of nesting, over what reads the parts; these have at most the room
 module _ (room : ℕ) (inner : Readers) where
-  abbrev pub next_element : Sort → List PlainExpr → List Token → Option (Turn (List PlainExpr))
+  abbrev pub next_element : Sort → List PlainExpr → List Token → Option (Iteration (List PlainExpr))
   next_element c es [] = None
   next_element c es (t ∷ ts) = if is c t then Some (done es ts)
       else (if is Comma t then Some (again es ts) else None)
 
-  abbrev pub elements_step : Sort → List PlainExpr → List Token → Option (Turn (List PlainExpr))
+  abbrev pub elements_step : Sort → List PlainExpr → List Token →
+      Option (Iteration (List PlainExpr))
   elements_step c es [] = None
   elements_step c es (t ∷ ts) = if is c t then Some (done es ts)
       else and_then (inner.expr Assignment (t ∷ ts)) (λ e r. next_element c (es ++ e ∷ []) r)
@@ -57,12 +58,12 @@ module _ (room : ℕ) (inner : Readers) where
   field_at t ts = if starts Colon ts then if_some (key t) (λ x. pair_at x (tail ts))
       else field_alone t ts
 
-  abbrev pub next_field : List PlainField → List Token → Option (Turn (List PlainField))
+  abbrev pub next_field : List PlainField → List Token → Option (Iteration (List PlainField))
   next_field fs [] = None
   next_field fs (t ∷ ts) = if is RightBrace t then Some (done fs ts)
       else (if is Comma t then Some (again fs ts) else None)
 
-  abbrev pub fields_step : List PlainField → List Token → Option (Turn (List PlainField))
+  abbrev pub fields_step : List PlainField → List Token → Option (Iteration (List PlainField))
   fields_step fs [] = None
   fields_step fs (t ∷ ts) = if is RightBrace t then Some (done fs ts)
       else and_then (field_at t ts) (λ f r. next_field (fs ++ f ∷ []) r)
@@ -85,18 +86,19 @@ module _ (room : ℕ) (inner : Readers) where
   declarator k [] = None
   declarator k (t ∷ ts) = declarator_at k t ts
 
-  abbrev pub next_declarator : List PlainDeclarator → List Token → Option (Turn (List PlainDeclarator))
+  abbrev pub next_declarator : List PlainDeclarator → List Token →
+      Option (Iteration (List PlainDeclarator))
   next_declarator ds [] = Some (done ds [])
   next_declarator ds (t ∷ ts) = if is Comma t then Some (again ds ts) else Some (done ds (t ∷ ts))
 
   abbrev pub declarators_step : DeclareKind → List PlainDeclarator → List Token →
-      Option (Turn (List PlainDeclarator))
+      Option (Iteration (List PlainDeclarator))
   declarators_step k ds ts = and_then (declarator k ts) (λ d r. next_declarator (ds ++ d ∷ []) r)
 
   abbrev pub declarators_of_kind : DeclareKind → List Token → Found (List PlainDeclarator)
   declarators_of_kind k ts = run (declarators_step k) [] ts
 
-  abbrev pub statements_step : List PlainStmt → List Token → Option (Turn (List PlainStmt))
+  abbrev pub statements_step : List PlainStmt → List Token → Option (Iteration (List PlainStmt))
   statements_step ss ts = if starts_end ts then Some (done ss ts)
       else and_then (inner.stmt ts) (λ s r. Some (again (ss ++ s ∷ []) r))
 
@@ -135,28 +137,29 @@ module _ (room : ℕ) (inner : Readers) where
   primary [] = None
   primary (t ∷ ts) = primary_at (sort t) t ts
 
-  abbrev pub member_turn : ℕ → PlainExpr → List Token → Option (Turn PlainExpr)
-  member_turn line e ts =
+  abbrev pub member_iteration : ℕ → PlainExpr → List Token → Option (Iteration PlainExpr)
+  member_iteration line e ts =
       within (one_less_if (is_object_name e) (nesting e)) room
       (after_some member_word ts (λ x r. Some (again (at 0 line (p.member e x)) r)))
 
-  abbrev pub index_turn : ℕ → PlainExpr → List Token → Option (Turn PlainExpr)
-  index_turn line e ts =
+  abbrev pub index_iteration : ℕ → PlainExpr → List Token → Option (Iteration PlainExpr)
+  index_iteration line e ts =
       within (nesting e) room (and_then (inner.expr Assignment ts)
       (λ i r. after RightBracket r (λ m. Some (again (at 0 line (p.index e i)) m))))
 
-  abbrev pub call_turn : ℕ → PlainExpr → List Token → Option (Turn PlainExpr)
-  call_turn line e ts =
+  abbrev pub call_iteration : ℕ → PlainExpr → List Token → Option (Iteration PlainExpr)
+  call_iteration line e ts =
       within (one_less_if (is_member e) (nesting e)) room
       (and_then (elements RightParen ts) (λ es r. Some (again (at 0 line (p.call e (exprs_of es))) r)))
 
-  abbrev pub called_at : ℕ → PlainExpr → Sort → List Token → List Token → Option (Turn PlainExpr)
-  called_at line e Dot all ts = member_turn line e ts
-  called_at line e LeftBracket all ts = index_turn line e ts
-  called_at line e LeftParen all ts = call_turn line e ts
+  abbrev pub called_at : ℕ → PlainExpr → Sort → List Token → List Token →
+      Option (Iteration PlainExpr)
+  called_at line e Dot all ts = member_iteration line e ts
+  called_at line e LeftBracket all ts = index_iteration line e ts
+  called_at line e LeftParen all ts = call_iteration line e ts
   called_at line e _ all ts = Some (done e all)
 
-  abbrev pub called_step : ℕ → PlainExpr → List Token → Option (Turn PlainExpr)
+  abbrev pub called_step : ℕ → PlainExpr → List Token → Option (Iteration PlainExpr)
   called_step line e [] = Some (done e [])
   called_step line e (t ∷ ts) = called_at line e (sort t) (t ∷ ts) ts
 
@@ -180,13 +183,13 @@ module _ (room : ℕ) (inner : Readers) where
   signed (t ∷ ts) = unary_at (sign t) t ts
 
   abbrev pub operated_at : ℕ → ℕ → PlainExpr → Option Operator → List Token → List Token →
-      Option (Turn PlainExpr)
+      Option (Iteration PlainExpr)
   operated_at line k a None all ts = Some (done a all)
   operated_at line k a (Some op) all ts =
       within (nesting a) room (and_then (inner.expr (Operators k) ts)
       (λ b r. Some (again (at 0 line (p.binary op a b)) r)))
 
-  abbrev pub operated_step : ℕ → ℕ → PlainExpr → List Token → Option (Turn PlainExpr)
+  abbrev pub operated_step : ℕ → ℕ → PlainExpr → List Token → Option (Iteration PlainExpr)
   operated_step line k a [] = Some (done a [])
   operated_step line k a (t ∷ ts) = operated_at line k a (operator_at k t) (t ∷ ts) ts
 

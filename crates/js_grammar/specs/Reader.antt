@@ -4,7 +4,7 @@ use Rattle.std.specs.Prelude.{ℕ, zero, suc, None}
 use Rattle.js_grammar.specs.Expressions.{Readers, declarators_of_kind, level}
 use Rattle.js_grammar.specs.Statements.{statement}
 
--- the readers with so much room
+-- the readers with this much room
 unfoldable pub readers : ℕ → Readers
 readers zero = record { expr = λ l ts. None; declarators = λ k ts. None; stmt = λ ts. None }
 readers (suc room) = record {

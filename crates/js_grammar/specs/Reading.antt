@@ -44,24 +44,27 @@ after_some g (t ∷ ts) f = if_some (g t) (λ x. f x ts)
 abbrev pub within : {B : Type 0} → ℕ → ℕ → Option B → Option B
 within n room o = if nat_le n room then o else None
 
--- one turn of a loop goes on or ends it
-pub data Turn (S : Type 0) : Type 0 where
-  again : S → List Token → Turn S
-  done : S → List Token → Turn S
+-- one iteration of a loop goes on or ends it
+pub data Iteration (S : Type 0) : Type 0 where
+  again : S → List Token → Iteration S
+  done : S → List Token → Iteration S
 
-abbrev pub next_turn : {S : Type 0} → (S → List Token → Found S) → Option (Turn S) → Found S
-next_turn go None = None
-next_turn go (Some (again s ts)) = go s ts
-next_turn go (Some (done s ts)) = Some (s, ts)
+abbrev pub next_iteration : {S : Type 0} → (S → List Token → Found S) → Option (Iteration S) →
+    Found S
+next_iteration go None = None
+next_iteration go (Some (again s ts)) = go s ts
+next_iteration go (Some (done s ts)) = Some (s, ts)
 
--- at most this many turns
-unfoldable pub turns : {S : Type 0} → (S → List Token → Option (Turn S)) → ℕ → S → List Token → Found S
-turns step zero s ts = None
-turns step (suc n) s ts = next_turn (turns step n) (step s ts)
+-- at most this many iterations
+unfoldable pub iterations : {S : Type 0} → (S → List Token → Option (Iteration S)) → ℕ → S →
+    List Token → Found S
+iterations step zero s ts = None
+iterations step (suc n) s ts = next_iteration (iterations step n) (step s ts)
 
--- a loop in which each turn but the last takes a token
-unfoldable pub run : {S : Type 0} → (S → List Token → Option (Turn S)) → S → List Token → Found S
-run step s ts = turns step (suc (length ts)) s ts
+-- a loop in which each iteration but the last takes a token
+unfoldable pub run : {S : Type 0} → (S → List Token → Option (Iteration S)) → S → List Token →
+    Found S
+run step s ts = iterations step (suc (length ts)) s ts
 
 -- `;`, or its absence
 abbrev pub ended_rest : Ending → List Token → Option (List Token)
@@ -72,12 +75,12 @@ ended_rest ends (t ∷ ts) = if is Semicolon t then Some ts
 abbrev pub ended : {B : Type 0} → Ending → List Token → (List Token → Option B) → Option B
 ended ends ts f = if_some (ended_rest ends ts) f
 
-abbrev pub next_param : List Name → List Token → Option (Turn (List Name))
+abbrev pub next_param : List Name → List Token → Option (Iteration (List Name))
 next_param xs [] = None
 next_param xs (t ∷ ts) = if is RightParen t then Some (done xs ts)
     else (if is Comma t then Some (again xs ts) else None)
 
-abbrev pub params_step : List Name → List Token → Option (Turn (List Name))
+abbrev pub params_step : List Name → List Token → Option (Iteration (List Name))
 params_step xs [] = None
 params_step xs (t ∷ ts) = if is RightParen t then Some (done xs ts)
     else if_some (named t) (λ x. next_param (xs ++ x ∷ []) ts)

@@ -13,7 +13,7 @@ use Rattle.js_grammar.specs.Sorts.{sort, is, spot, named}
 use Rattle.js_grammar.specs.Ends.{ends_return}
 use Rattle.js_grammar.specs.Tokens.{starts, declares, lexical, starts_lexical, starts_for_of}
 use Rattle.js_grammar.specs.Grammar.{Assignment}
-use Rattle.js_grammar.specs.Reading.{Found, and_then, tail, after, after_some, Turn, run, ended, opening, break_at, continue_at, again, done}
+use Rattle.js_grammar.specs.Reading.{Found, and_then, tail, after, after_some, Iteration, run, ended, opening, break_at, continue_at, again, done}
 use Rattle.js_grammar.specs.Expressions.{Readers, declarators_of_kind, closed_statements}
 
 -- one level of nesting, over what reads the parts; these have at most the room
@@ -121,7 +121,7 @@ module _ (room : ℕ) (inner : Readers) where
   item (t ∷ ts) = if is Function t then item_function_at t ts
       else and_then (statement (t ∷ ts)) (λ s r. Some (p.statement (spot t) s, r))
 
-  abbrev pub items_step : List PlainItem → List Token → Option (Turn (List PlainItem))
+  abbrev pub items_step : List PlainItem → List Token → Option (Iteration (List PlainItem))
   items_step is [] = Some (done is [])
   items_step is (t ∷ ts) = and_then (item (t ∷ ts)) (λ i r. Some (again (is ++ i ∷ []) r))
 

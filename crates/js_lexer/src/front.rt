@@ -46,7 +46,7 @@ fn name_extent(bytes: &[u8]) -> usize
 }
 
 /// The word or name in front.
-pub fn name_front(alloc: Global, keywords: &KeywordTable, bytes: &[u8]) -> Result<Found, Stop>
+fn name_front(alloc: Global, keywords: &KeywordTable, bytes: &[u8]) -> Result<Found, Stop>
     requires { keywords.now ≡ all_keywords }
     ensures { IsFound (token (name_kind (take (name_size bytes.now) bytes.now))
         (name_size bytes.now)) result }
@@ -61,7 +61,7 @@ pub fn name_front(alloc: Global, keywords: &KeywordTable, bytes: &[u8]) -> Resul
 }
 
 /// The longest mark in front.
-pub fn mark_front(alloc: Global, marks: &MarkTable, bytes: &[u8]) -> Result<Found, Stop>
+fn mark_front(alloc: Global, marks: &MarkTable, bytes: &[u8]) -> Result<Found, Stop>
     requires { marks.now ≡ all_marks }
     ensures { IsFound (mark bytes.now (front_in all_marks bytes.now)) result }
 {
@@ -75,7 +75,7 @@ pub fn mark_front(alloc: Global, marks: &MarkTable, bytes: &[u8]) -> Result<Foun
 }
 
 /// The comment whose first two bytes stand before these.
-pub fn block_front(bytes: &[u8]) -> Result<Found, Stop>
+fn block_front(bytes: &[u8]) -> Result<Found, Stop>
     ensures { IsFound (block (size_to_close bytes.now)) result }
 {
     match close_front(bytes) {
@@ -138,22 +138,29 @@ fn quoted_front(
     literal_front(alloc, quote, text.split_at(place + 1).1)
 }
 
-/// What stands in front of the bytes, which are the text's from the place on.
-pub fn front_at(
+/// The bytes of the text from the place on.
+pub(crate) fn rest_of(text: &str, place: usize) -> &[u8]
+    requires { place ≤ length text.now }
+    ensures { result.now ≡ drop place text.now }
+{
+    &text.as_bytes()[place..]
+}
+
+/// What stands in front of the text from the place on.
+pub(crate) fn front_at(
     alloc: Global,
     keywords: &KeywordTable,
     marks: &MarkTable,
-    bytes: &[u8],
     text: &str,
     place: usize,
 ) -> Result<Found, Stop>
     requires keywords { keywords.now ≡ all_keywords }
     requires marks { marks.now ≡ all_marks }
     requires size { length text.now ≤ MOST_BYTES }
-    requires place { bytes.now ≡ drop place text.now }
-    requires some { 0 < length bytes.now }
-    ensures { IsFound (front bytes.now) result }
+    requires place { place < length text.now }
+    ensures { IsFound (front (drop place text.now)) result }
 {
+    let bytes = rest_of(text, place);
     let Some((b, behind)) = bytes.split_first() else {
         unreachable!();
     };

@@ -4,7 +4,7 @@ ghost use Rattle.js_lexer.specs.declared.limits.TheConstants.{MOST_BYTES};
 ghost use Rattle.js_lexer.specs.Gaps.{begins_separator, blank_size, line_end_size, ends_line, line_ends, line_of, size_of_line, size_to_close};
 
 /// Whether U+2028 or U+2029 stands in front.
-pub fn is_separator(bytes: &[u8]) -> bool
+pub(crate) fn is_separator(bytes: &[u8]) -> bool
     ensures test { result ≡ begins_separator bytes.now }
     ensures room { IsTrue result → 3 ≤ length bytes.now }
 {
@@ -12,7 +12,7 @@ pub fn is_separator(bytes: &[u8]) -> bool
 }
 
 /// How many bytes of white space stand in front, up to one character.
-pub fn blank_front(bytes: &[u8]) -> usize
+pub(crate) fn blank_front(bytes: &[u8]) -> usize
     ensures size { result ≡ blank_size bytes.now }
     ensures within { result ≤ length bytes.now }
 {
@@ -33,7 +33,7 @@ pub fn blank_front(bytes: &[u8]) -> usize
 }
 
 /// How many bytes the line end in front has, or 0.
-pub fn line_end_front(bytes: &[u8]) -> usize
+pub(crate) fn line_end_front(bytes: &[u8]) -> usize
     ensures size { result ≡ line_end_size bytes.now }
     ensures within { result ≤ length bytes.now }
 {
@@ -59,7 +59,7 @@ fn is_line_ended(bytes: &[u8]) -> bool
 
 /// How many lines end in the first n bytes.
 #[tactic(auto, using(crate::proofs::Lines::line_ends_step, crate::proofs::Lines::line_ends_none))]
-pub fn line_ends_in(bytes: &[u8], n: usize) -> u32
+pub(crate) fn line_ends_in(bytes: &[u8], n: usize) -> u32
     requires { length bytes.now ≤ MOST_BYTES }
     ensures ends { result ≡ line_ends n bytes.now }
     ensures few { result ≤ n }
@@ -80,7 +80,7 @@ pub fn line_ends_in(bytes: &[u8], n: usize) -> u32
     ends
 }
 
-/// The line of a byte's place, from 1. It takes no memory.
+/// The line of a byte's place, from 1.
 ///
 /// A line end that begins before the place counts; CR LF counts at its LF.
 pub fn line_at(bytes: &[u8], place: u32) -> u32
@@ -93,7 +93,7 @@ pub fn line_at(bytes: &[u8], place: u32) -> u32
 
 /// How many bytes stand before the first line end.
 #[tactic(auto, using(crate::proofs::Lines::size_of_line_step))]
-pub fn line_front(bytes: &[u8]) -> usize
+pub(crate) fn line_front(bytes: &[u8]) -> usize
     ensures size { result ≡ size_of_line bytes.now }
     ensures within { result ≤ length bytes.now }
 {
@@ -111,7 +111,7 @@ pub fn line_front(bytes: &[u8]) -> usize
 
 /// How many bytes there are with the first `*/`.
 #[tactic(auto, using(crate::proofs::Lines::close_here, crate::proofs::Lines::close_step, crate::proofs::Lines::close_none))]
-pub fn close_front(bytes: &[u8]) -> Option<usize>
+pub(crate) fn close_front(bytes: &[u8]) -> Option<usize>
     ensures size { result ≡ size_to_close bytes.now }
     ensures within { IfSome result (λ n. n ≤ length bytes.now) }
 {

@@ -1,5 +1,5 @@
 //! A program's bytes cut into tokens.
-ghost use Rattle.std.specs.Prelude.{◌≡◌, ◌≤◌, ◌<◌, ◌+◌, ◌^◌, IfOk, IfErr, ◌||◌, nat_lt, length, drop};
+ghost use Rattle.std.specs.Prelude.{◌≡◌, ◌≤◌, ◌<◌, ◌+◌, ◌^◌, IfOk, IfErr, ◌||◌, nat_lt, length};
 ghost use Rattle.std.specs.Str.{IsUtf8};
 ghost use Rattle.js_lexer.specs.declared.limits.TheConstants.{MOST_BYTES};
 ghost use Rattle.js_lexer.specs.Cut.{Cut};
@@ -8,14 +8,14 @@ ghost use Rattle.js_lexer.specs.Lexed.{IsRefusal, fault_of};
 ghost use Rattle.js_lexer.specs.inner.Steps.{IsStep, StopFits, fault_of_stop};
 ghost use Rattle.js_lexer.specs.Laws.{OneCutting, OneRefusal, NeverBoth, CutOrRefused, TokensInOrder, LongestMark};
 
-use crate::front::front_at;
+use crate::front::{front_at, rest_of};
 use crate::gaps::line_ends_in;
 use crate::spellings::{KeywordTable, MarkTable, keyword_table, mark_table};
 use crate::token::{Flaw, Found, LexFault, Stop, Token};
 use std::alloc::Global;
 
 /// The refusal of a flaw at a byte's place.
-pub fn fault_at(flaw: Flaw, place: usize) -> LexFault
+fn fault_at(flaw: Flaw, place: usize) -> LexFault
     requires { place < 2 ^ 32 }
     ensures { result ≡ fault_of flaw place }
 {
@@ -58,13 +58,6 @@ fn stopped(stop: Stop, place: usize) -> LexFault
     }
 }
 
-fn rest_of(text: &str, place: usize) -> &[u8]
-    requires { place ≤ length text.now }
-    ensures { result.now ≡ drop place text.now }
-{
-    &text.as_bytes()[place..]
-}
-
 fn step_at(
     alloc: Global,
     keywords: &KeywordTable,
@@ -78,7 +71,7 @@ fn step_at(
     requires place { place < length text.now }
     ensures { IsStep text.now place result }
 {
-    front_at(alloc, keywords, marks, rest_of(text, place), text, place)
+    front_at(alloc, keywords, marks, text, place)
 }
 
 fn is_broken(new_line: bool, ends: u32) -> bool

@@ -17,7 +17,7 @@ use std::alloc::Global;
 type Escape = (usize, Option<char>);
 
 /// Whether the byte is LF or CR.
-pub fn is_break_byte(b: u8) -> bool
+fn is_break_byte(b: u8) -> bool
     ensures { result ≡ is_break b }
 {
     b == b'\n' || b == b'\r'
@@ -177,7 +177,7 @@ fn letter_of(b: u8) -> Option<char>
 }
 
 /// The escape after a backslash: how many bytes it has, and its character.
-pub fn escape_front(bytes: &[u8]) -> Option<Escape>
+fn escape_front(bytes: &[u8]) -> Option<Escape>
     ensures { result ≡ escape bytes.now }
 {
     let (b, behind) = bytes.split_first()?;
@@ -257,7 +257,7 @@ fn escape_into(content: &mut String, quote: u8, rest: &str, size: usize) -> Resu
 }
 
 /// The text literal from after its quote: its content, and how many bytes it has with both quotes.
-pub fn literal_front(alloc: Global, quote: u8, text: &str) -> Result<Found, Stop>
+pub(crate) fn literal_front(alloc: Global, quote: u8, text: &str) -> Result<Found, Stop>
     requires quote { IsTrue (is_quote quote) }
     requires size { length text.now ≤ MOST_BYTES }
     ensures { IsFound (quoted (literal quote 0 text.now)) result }

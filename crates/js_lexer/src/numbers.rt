@@ -10,10 +10,10 @@ use crate::token::{Flaw, Found, Kind, Stop};
 use js_data::Whole;
 
 /// The greatest number.
-pub const GREATEST: u64 = 9_007_199_254_740_991;
+pub(crate) const GREATEST: u64 = 9_007_199_254_740_991;
 
 /// The value of a digit of a base up to 16, and 16 for any other byte.
-pub fn value_of(b: u8) -> u8
+pub(crate) fn value_of(b: u8) -> u8
     ensures value { result ≡ digit_value b }
     ensures within { result ≤ 16 }
 {
@@ -29,14 +29,14 @@ pub fn value_of(b: u8) -> u8
 }
 
 /// Whether the byte is a digit of the base.
-pub fn is_digit_in(base: u8, b: u8) -> bool
+pub(crate) fn is_digit_in(base: u8, b: u8) -> bool
     ensures { result ≡ is_digit_of base b }
 {
     value_of(b) < base
 }
 
 /// How many digits of the base stand in front.
-pub fn digits_front(base: u8, bytes: &[u8]) -> usize
+pub(crate) fn digits_front(base: u8, bytes: &[u8]) -> usize
     ensures size { result ≡ digits_size base bytes.now }
     ensures within { result ≤ length bytes.now }
 {
@@ -52,7 +52,7 @@ pub fn digits_front(base: u8, bytes: &[u8]) -> usize
 
 /// The number that the digits in front are, if it is not above the greatest.
 #[tactic(auto, using(crate::proofs::Digits::digits_above))]
-pub fn digits_number(base: u8, bytes: &[u8]) -> Option<u64>
+pub(crate) fn digits_number(base: u8, bytes: &[u8]) -> Option<u64>
     requires base { base ≤ 16 }
     requires some { 1 ≤ base }
     ensures { MatchOption result (GREATEST < digits_value base 0 bytes.now)
@@ -84,7 +84,7 @@ fn says_base(bytes: &[u8], base: u8, small: u8, capital: u8) -> bool
 }
 
 /// The base that the bytes in front say.
-pub fn base_front(bytes: &[u8]) -> u8
+fn base_front(bytes: &[u8]) -> u8
     ensures room { result ≢ 10 → 2 ≤ length bytes.now }
     ensures within { result ≤ 16 }
     ensures some { 1 ≤ result }
@@ -155,7 +155,7 @@ fn is_refused_behind(base: u8, b: u8) -> bool
 }
 
 /// The number in front, of text that begins with a digit.
-pub fn number_front(bytes: &[u8]) -> Result<Found, Stop>
+pub(crate) fn number_front(bytes: &[u8]) -> Result<Found, Stop>
     ensures { IsFound (number bytes.now) result }
 {
     let base = base_front(bytes);

@@ -7,13 +7,13 @@ use crate::sort::Sort;
 use bp_tables::{Table, rows};
 
 /// The keywords, each with its sort.
-pub type KeywordTable = Table<Sort, 39>;
+pub(crate) type KeywordTable = Table<Sort, 39>;
 
 /// The marks, each with its sort.
-pub type MarkTable = Table<Sort, 57>;
+pub(crate) type MarkTable = Table<Sort, 57>;
 
 /// The keywords of the language, and the keywords that it refuses.
-pub fn keyword_table() -> KeywordTable
+pub(crate) fn keyword_table() -> KeywordTable
     ensures rows { result ≡ keywords ++ unsupported_keywords }
     ensures distinct { IsTrue (have_distinct_keys (keywords ++ unsupported_keywords)) }
 {
@@ -61,7 +61,7 @@ pub fn keyword_table() -> KeywordTable
 }
 
 /// The marks of the language, and the marks that it refuses, the longest first.
-pub fn mark_table() -> MarkTable
+pub(crate) fn mark_table() -> MarkTable
     ensures rows { result ≡ all_marks }
     ensures distinct { IsTrue (have_distinct_keys all_marks) }
 {

@@ -96,7 +96,7 @@ pub enum Flaw {
 
 /// What stands in front, before the text's end.
 #[derive(Drop)]
-pub enum Found {
+pub(crate) enum Found {
     /// White space, a line end or a comment, of this many bytes.
     Gap(usize),
     /// A token with its sort, of this many bytes.
@@ -105,7 +105,7 @@ pub enum Found {
 
 /// Why no token is answered: what is wrong and how many bytes on, or out of memory.
 #[derive(Clone, Copy)]
-pub enum Stop {
+pub(crate) enum Stop {
     /// A flaw this many bytes on.
     Refused(Flaw, usize),
     /// Out of memory.

@@ -49,7 +49,7 @@ adds_as r a b xs ys e h = subst (λ zs. OnOk r (Adds a b zs)) e h
 pub adds_none : (a : Walk) → Adds a a []
 adds_none a = (refl, sym (append-nil (map mention_of a.mentions.items)))
 
--- one more turn of a loop of walks
+-- one more iteration of a loop of walks
 pub adds_more : {X : Type 0} (f : List Scope → X → List Unresolved) (xs : List X) (i : ℕ) (d x : X) (a b c : Walk) → i < length xs → x ≡ get_or xs i d
     → Adds a b (flat_map (f (scopes_in a)) (take i xs)) → Adds b c (f (scopes_in b) x) → Adds a c (flat_map (f (scopes_in a)) (take (i + 1) xs))
 adds_more f xs i d x a b c h e s t =

@@ -22,7 +22,7 @@ pub holds_both : (a b c : Sets) (xs ys : List Holding) → Holds a b xs → Hold
 holds_both a b c xs ys h k = λ q.
     k q ∙ (ap (λ z. fold joins z (held_by q ys)) (h q) ∙ (sym (fold-append joins (held_in a q) (held_by q xs) (held_by q ys)) ∙ ap (fold joins (held_in a q)) (sym (held-append q xs ys))))
 
--- one more turn of a loop
+-- one more iteration of a loop
 pub holds_more : {X : Type 0} (f : X → List Holding) (xs : List X) (i : ℕ) (d x : X) (a b c : Sets) → i < length xs → x ≡ get_or xs i d
     → Holds a b (flat_map f (take i xs)) → Holds b c (f x) → Holds a c (flat_map f (take (i + 1) xs))
 holds_more f xs i d x a b c h e s t =
@@ -75,7 +75,7 @@ has_of q f (y ∷ ys) (suc n) d x h l e =
     subst (λ z. Has z (held_by q (f x))) (sym (ap (fold joins h) (held-append q (f y) (flat_map f ys)) ∙ fold-append joins h (held_by q (f y)) (held_by q (flat_map f ys))))
     (has_of q f ys n d x (fold joins h (held_by q (f y))) (omega arith) e)
 
--- a turn of a loop that takes nothing in, since an element before holds the same
+-- an iteration of a loop that takes nothing in, since an element before holds the same
 pub holds_again : {X : Type 0} (f : X → List Holding) (xs : List X) (i : ℕ) (d x : X) (a b : Sets) (at : ℕ) (y : X) → i < length xs → x ≡ get_or xs i d
     → at < length (take i xs) → y ≡ get_or (take i xs) at y → f y ≡ f x → Holds a b (flat_map f (take i xs)) → Holds a b (flat_map f (take (i + 1) xs))
 holds_again f xs i d x a b at y h e l g s t = λ q.

@@ -21,7 +21,7 @@ use Rattle.js_names.specs.Scopes.{Scope, named, first, one_var, inner_scope, par
 use Rattle.js_names.specs.Forms.{is_undefined, is_reserved, object_of, called_builtin, value_builtin}
 use Rattle.js_names.specs.Unresolved.{Unresolved, mention_in, one_mention, read_mention, assign_mention, member_mentions, in_function, in_loop, begin_mention, parameter_mentions, expr_mentions, form_mentions, exprs_mentions, fields_mentions, perhaps_mentions, declarators_mentions, start_mentions, stmt_mentions, stmt_form_mentions, stmts_mentions, item_mentions, unresolved_mentions}
 use Rattle.js_names.specs.Mentions.{is_var, look_up}
-use Rattle.js_names.specs.Scoped.{is_lexical, ScopedExpr, ScopedForm, ScopedExprs, ScopedFields, ScopedPerhaps, ScopedDeclarators, ScopedStart, ScopedStmt, ScopedBody, ScopedStmtForm, ScopedStmts, ScopedItems}
+use Rattle.js_names.specs.Lexicals.{is_lexical, ScopedExpr, ScopedForm, ScopedExprs, ScopedFields, ScopedPerhaps, ScopedDeclarators, ScopedStart, ScopedStmt, ScopedBody, ScopedStmtForm, ScopedStmts, ScopedItems}
 use Rattle.js_names.specs.Kept.{IsOwn, IsLookedUpAlike, ProgramsKeepEnough}
 use Rattle.js_names.proofs.KeptLemmas.{keeps_enough}
 

@@ -23,7 +23,7 @@ use Rattle.js_names.specs.declared.mention.Role.{Role}
 use Rattle.js_names.specs.Entries.{top}
 use Rattle.js_names.specs.Scopes.{Scope, for_three_scope}
 use Rattle.js_names.specs.Unresolved.{one_mention, word_at, perhaps_mentions, declarators_mentions, start_mentions, stmt_mentions, stmt_form_mentions, item_mentions, declared_role, in_loop, in_function}
-use Rattle.js_names.specs.inner.TreeMentions.{tree_mentions, declarator_mentions, perhaps_tree_mentions, start_tree_mentions, tree_stmt_mentions, block_mentions, for_mentions, listed_mentions, turn_mentions, declared_mentions, tree_item_mentions}
+use Rattle.js_names.specs.inner.TreeMentions.{tree_mentions, declarator_mentions, perhaps_tree_mentions, start_tree_mentions, tree_stmt_mentions, block_mentions, for_mentions, listed_mentions, iteration_mentions, declared_mentions, tree_item_mentions}
 use Rattle.js_names.proofs.Exprs.{stmts_flat, body_is}
 
 -- the mentions of a statement are those of its form
@@ -117,9 +117,9 @@ in_for_mentions s a x b t n o y h d =
     ap (for_mentions s a b t n) d ∙ (for_parts s a b t n o.value ∙ form_at s a x (ForThree b t n o) _ h (for_is b t n o))
 
 pub in_each_mentions : (s : List Scope) (a : Around) (x : Stmt) (k : DeclareKind) (n : Name) (e : Expr) (o : Box Stmt Global) (y : Stmt) → x.form ≡ ForOf k n e o → y ≡ o.value
-    → listed_mentions s a k n e ++ turn_mentions s a k n y ≡ tree_stmt_mentions s a x
+    → listed_mentions s a k n e ++ iteration_mentions s a k n y ≡ tree_stmt_mentions s a x
 unfolding stmt_form_mentions
-in_each_mentions s a x k n e o y h d = ap (λ z. listed_mentions s a k n e ++ turn_mentions s a k n z) d ∙ form_at s a x (ForOf k n e o) _ h (for_of_is k n e o)
+in_each_mentions s a x k n e o y h d = ap (λ z. listed_mentions s a k n e ++ iteration_mentions s a k n z) d ∙ form_at s a x (ForOf k n e o) _ h (for_of_is k n e o)
 
 pub break_mentions : (s : List Scope) (a : Around) (x : Stmt) (k : Spot) → x.form ≡ Break k → one_mention s a What.LoopWord (word_at (codes "break") k) ≡ tree_stmt_mentions s a x
 unfolding stmt_form_mentions

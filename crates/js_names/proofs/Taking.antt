@@ -122,7 +122,7 @@ vars_both keep a b c xs ys h k = λ q.
     k q ∙ ap (λ o. merge o (kept (keep q) y)) (h q) ∙ merge_assoc (get_by_text a q) (kept (keep q) x) (kept (keep q) y)
     ∙ ap (merge (get_by_text a q)) (sym (ap (kept (keep q)) (ap one_var (named-append q xs ys) ∙ one_var-append (named q xs) (named q ys)) ∙ kept_merge (keep q) x y))
 
--- one more turn of a loop that takes in what each element declares
+-- one more iteration of a loop that takes in what each element declares
 pub own_more : {X : Type 0} (f : X → List Entry) (xs : List X) (i : ℕ) (d x : X) (a b c : Names) → i < length xs → x ≡ get_or xs i d
     → TakesOwn a b (flat_map f (take i xs)) → TakesOwn b c (f x) → TakesOwn a c (flat_map f (take (i + 1) xs))
 own_more f xs i d x a b c h e s t =

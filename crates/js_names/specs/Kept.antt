@@ -10,7 +10,7 @@ use Rattle.js_names.specs.Entries.{Entry}
 use Rattle.js_names.specs.Scopes.{Scope, named, first, inner_scope, scope_with}
 use Rattle.js_names.specs.Unresolved.{Unresolved, mention_in, unresolved_mentions}
 use Rattle.js_names.specs.Mentions.{is_var, look_up}
-use Rattle.js_names.specs.Scoped.{ScopedItems}
+use Rattle.js_names.specs.Lexicals.{ScopedItems}
 
 -- what a mention declares, but for a `var`, is one of these names
 abbrev pub IsOwn : List Entry → What → Name → Type 0

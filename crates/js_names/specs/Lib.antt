@@ -4,7 +4,7 @@ pub mod Forms
 pub mod Spots
 pub mod Unresolved
 pub mod Mentions
-pub mod Scoped
+pub mod Lexicals
 pub mod Kept
 pub mod Slots
 pub mod Rules

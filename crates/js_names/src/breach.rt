@@ -9,7 +9,7 @@ use std::alloc::AllocError;
 
 /// A rule of names.
 #[derive(Clone, Copy, PartialEq, Eq)]
-pub enum Breach {
+pub(crate) enum Breach {
     Unknown,
     Twice,
     AssignConst,
@@ -38,9 +38,9 @@ impl Breach {
 
 /// A mention that breaks a rule.
 #[derive(Clone, Copy)]
-pub struct Found<'a> {
-    pub breach: Breach,
-    pub mention: &'a Mention,
+pub(crate) struct Found<'a> {
+    pub(crate) breach: Breach,
+    pub(crate) mention: &'a Mention,
 }
 
 /// Whether a breach is told rather than another.
@@ -54,7 +54,7 @@ fn comes_before(found: Found, other: Found) -> bool
 }
 
 /// The breach that is told.
-pub fn sooner<'a>(first: Option<Found<'a>>, found: Option<Found<'a>>) -> Option<Found<'a>>
+pub(crate) fn sooner<'a>(first: Option<Found<'a>>, found: Option<Found<'a>>) -> Option<Found<'a>>
     ensures { fault_in result ≡ sooner (fault_in first.entry) (fault_in found.entry) }
 {
     match (first, found) {
@@ -69,7 +69,7 @@ pub fn sooner<'a>(first: Option<Found<'a>>, found: Option<Found<'a>>) -> Option<
 }
 
 /// The fault of a mention that breaks a rule.
-pub fn fault_of(found: Found) -> Result<NameFault, AllocError>
+pub(crate) fn fault_of(found: Found) -> Result<NameFault, AllocError>
     ensures { IfOk result (λ f. f ≡ fault_of found.entry.breach found.entry.mention.now.name) }
 {
     let name = copy_of(&found.mention.name)?;

@@ -14,7 +14,7 @@ use js_tree::{Declarator, DeclareKind, Name, Start, Stmt, StmtForm};
 use std::alloc::{AllocError, Global};
 
 /// Declares a name, unless the map has it.
-pub fn declare_own(
+pub(crate) fn declare_own(
     alloc: Global,
     map: &mut IndexMap<String, Declared>,
     name: &Name,
@@ -58,7 +58,7 @@ fn declare_own_declarator(
 }
 
 /// The same of declarators.
-pub fn declare_own_declarators(
+fn declare_own_declarators(
     alloc: Global,
     map: &mut IndexMap<String, Declared>,
     owner: u32,
@@ -76,7 +76,7 @@ pub fn declare_own_declarators(
 }
 
 /// Declares the `let` or `const` names of a statement, for the list in which it stands.
-pub fn declare_own_stmt(
+pub(crate) fn declare_own_stmt(
     alloc: Global,
     map: &mut IndexMap<String, Declared>,
     owner: u32,
@@ -94,7 +94,7 @@ pub fn declare_own_stmt(
 }
 
 /// The same of a list of statements.
-pub fn declare_own_stmts(
+pub(crate) fn declare_own_stmts(
     alloc: Global,
     map: &mut IndexMap<String, Declared>,
     owner: u32,
@@ -136,7 +136,7 @@ fn keeps(own: Option<&IndexMap<String, Declared>>, text: &str) -> bool
 
 /// Declares a `var`, which is one variable with earlier ones of its name, unless the own names of a block are
 /// given and this is none of them.
-pub fn declare_var(
+fn declare_var(
     alloc: Global,
     map: &mut IndexMap<String, Declared>,
     own: Option<&IndexMap<String, Declared>>,
@@ -194,7 +194,7 @@ fn declare_var_declarator(
 }
 
 /// The same of declarators.
-pub fn declare_var_declarators(
+fn declare_var_declarators(
     alloc: Global,
     map: &mut IndexMap<String, Declared>,
     own: Option<&IndexMap<String, Declared>>,
@@ -213,7 +213,7 @@ pub fn declare_var_declarators(
 }
 
 /// Declares the `var` names of the head of a `for`.
-pub fn declare_start_vars(
+pub(crate) fn declare_start_vars(
     alloc: Global,
     map: &mut IndexMap<String, Declared>,
     own: Option<&IndexMap<String, Declared>>,
@@ -232,7 +232,7 @@ pub fn declare_start_vars(
 }
 
 /// Declares the `let` and `const` names of the head of a `for`.
-pub fn declare_start_own(
+pub(crate) fn declare_start_own(
     alloc: Global,
     map: &mut IndexMap<String, Declared>,
     owner: u32,
@@ -250,7 +250,7 @@ pub fn declare_start_own(
 
 /// Declares the `var` names in a statement, at any depth outside inner functions.
 #[cycle(vars)]
-pub fn declare_stmt_vars(
+pub(crate) fn declare_stmt_vars(
     alloc: Global,
     map: &mut IndexMap<String, Declared>,
     own: Option<&IndexMap<String, Declared>>,
@@ -283,7 +283,7 @@ pub fn declare_stmt_vars(
 
 /// The same of a list of statements.
 #[cycle(vars)]
-pub fn declare_list_vars(
+pub(crate) fn declare_list_vars(
     alloc: Global,
     map: &mut IndexMap<String, Declared>,
     own: Option<&IndexMap<String, Declared>>,

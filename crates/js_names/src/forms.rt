@@ -15,7 +15,7 @@ pub fn is_undefined(text: &str) -> bool
 }
 
 /// Whether the name is one that can't be declared.
-pub fn is_reserved(text: &str) -> bool
+pub(crate) fn is_reserved(text: &str) -> bool
     ensures { result ≡ is_reserved text.now }
 {
     is_object(text) || is_undefined(text)

@@ -285,7 +285,7 @@ fn hold_all(
 }
 
 /// The variables of each function and of the top level, in the order of their slots.
-pub fn slots(
+pub(crate) fn slots(
     alloc: Global,
     assigned: &IndexSet<u32>,
     mentions: &[Mention],

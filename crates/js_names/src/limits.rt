@@ -1,4 +1,4 @@
 //! The limit of a function's slots.
 
 /// The most slots of a function, and of the top level.
-pub const MOST_SLOTS: usize = 256;
+pub(crate) const MOST_SLOTS: usize = 256;

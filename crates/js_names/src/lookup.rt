@@ -116,7 +116,7 @@ fn repeated(scopes: &[Scope], name: &str, offset: u32) -> bool
 }
 
 /// Whether a declared name is the later of two that clash, or can't be declared.
-pub fn clashes(scopes: &[Scope], what: What, name: &Name) -> bool
+pub(crate) fn clashes(scopes: &[Scope], what: What, name: &Name) -> bool
     ensures { result ≡ clashes what (scopes_of scopes.now) name.now }
 {
     match what {
@@ -134,7 +134,7 @@ pub fn clashes(scopes: &[Scope], what: What, name: &Name) -> bool
 }
 
 /// The declaration that a name stands for.
-pub fn declared_at(scopes: &[Scope], what: What, name: &str) -> Option<Declared>
+pub(crate) fn declared_at(scopes: &[Scope], what: What, name: &str) -> Option<Declared>
     ensures { result ≡ declared_at what (scopes_of scopes.now) name.now }
 {
     match what {

@@ -114,7 +114,7 @@ pub enum NameFault {
     #[error("a function needs more slots than it may have")]
     Slots(Name),
     /// Out of memory.
-    #[error("want of memory")]
+    #[error("out of memory")]
     Memory,
 }
 
@@ -130,7 +130,7 @@ impl From<AllocError> for NameFault {
 }
 
 /// The same name at the same offset.
-pub fn copy_of(name: &Name) -> Result<Name, AllocError>
+pub(crate) fn copy_of(name: &Name) -> Result<Name, AllocError>
     ensures { IfOk result (λ n. n ≡ name.now) }
 {
     Ok(Name {
@@ -140,7 +140,7 @@ pub fn copy_of(name: &Name) -> Result<Name, AllocError>
 }
 
 /// A word where it stands.
-pub fn word_at(alloc: Global, text: &str, spot: Spot) -> Result<Name, AllocError>
+pub(crate) fn word_at(alloc: Global, text: &str, spot: Spot) -> Result<Name, AllocError>
     ensures { IfOk result (λ n. n ≡ word_at text.now spot) }
 {
     Ok(Name {

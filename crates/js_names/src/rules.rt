@@ -13,7 +13,7 @@ use indexmap::{IndexMap, IndexSet};
 use std::alloc::{AllocError, Global};
 
 /// A name that nothing declares, or a use of `bp` or `Math` that is not a form.
-pub fn fails_unknown(mention: &Mention) -> bool
+pub(crate) fn fails_unknown(mention: &Mention) -> bool
     ensures { result ≡ fails_unknown (mention_of mention.now) }
 {
     match mention.what {
@@ -24,7 +24,7 @@ pub fn fails_unknown(mention: &Mention) -> bool
 }
 
 /// An assignment to or an update of a `const` or a function declaration.
-pub fn fails_const(mention: &Mention) -> bool
+pub(crate) fn fails_const(mention: &Mention) -> bool
     ensures { result ≡ fails_const (mention_of mention.now) }
 {
     if let What::Assigns = mention.what
@@ -44,7 +44,7 @@ pub fn is_constant(assigned: &IndexSet<u32>, declared: Declared) -> bool
 }
 
 /// Whether a variable's value can be copied into a function that begins at the offset.
-pub fn can_copy(assigned: &IndexSet<u32>, declared: Declared, begins: u32) -> bool
+pub(crate) fn can_copy(assigned: &IndexSet<u32>, declared: Declared, begins: u32) -> bool
     ensures { result ≡ can_copy assigned.now.keys declared begins }
 {
     (declared.role != Role::Var || declared.direct)
@@ -53,7 +53,7 @@ pub fn can_copy(assigned: &IndexSet<u32>, declared: Declared, begins: u32) -> bo
 }
 
 /// Whether a variable belongs to an outer function or to the top level, and is not a constant.
-pub fn is_outer(assigned: &IndexSet<u32>, mention: &Mention, declared: Declared) -> bool
+pub(crate) fn is_outer(assigned: &IndexSet<u32>, mention: &Mention, declared: Declared) -> bool
     ensures { result ≡ is_outer assigned.now.keys (mention_of mention.now) declared }
 {
     declared.owner != mention.around.owner && !is_constant(assigned, declared)
@@ -74,7 +74,7 @@ pub fn variable_at(mention: &Mention) -> Option<Declared>
 
 /// A variable of an outer function or of the top level, no constant, whose value can't be copied as the
 /// inner function begins.
-pub fn fails_capture(assigned: &IndexSet<u32>, mention: &Mention) -> bool
+pub(crate) fn fails_capture(assigned: &IndexSet<u32>, mention: &Mention) -> bool
     ensures { result ≡ fails_capture assigned.now.keys (mention_of mention.now) }
 {
     match mention.what {
@@ -90,7 +90,7 @@ pub fn fails_capture(assigned: &IndexSet<u32>, mention: &Mention) -> bool
 }
 
 /// `break` or `continue` outside a loop of its function.
-pub fn fails_loop_word(mention: &Mention) -> bool
+pub(crate) fn fails_loop_word(mention: &Mention) -> bool
     ensures { result ≡ fails_loop_word (mention_of mention.now) }
 {
     match mention.what {
@@ -100,7 +100,7 @@ pub fn fails_loop_word(mention: &Mention) -> bool
 }
 
 /// `return` at the top level.
-pub fn fails_return(mention: &Mention) -> bool
+pub(crate) fn fails_return(mention: &Mention) -> bool
     ensures { result ≡ fails_return (mention_of mention.now) }
 {
     match mention.what {
@@ -110,7 +110,7 @@ pub fn fails_return(mention: &Mention) -> bool
 }
 
 /// More slots than a function may have.
-pub fn fails_slots(held: &IndexMap<u32, IndexSet<u32>>, mention: &Mention) -> bool
+pub(crate) fn fails_slots(held: &IndexMap<u32, IndexSet<u32>>, mention: &Mention) -> bool
     ensures { result ≡ fails_slots (λ f. length (held_in held.now f)) (mention_of mention.now) }
 {
     match mention.what {
@@ -131,7 +131,7 @@ fn assigned_at(mention: &Mention) -> Option<u32>
 
 /// The variables that some mention assigns or updates, by the offsets of their declared names.
 #[tactic(auto, unfolding(crate::specs::Slots::assigned_in))]
-pub fn assigned_in(alloc: Global, mentions: &[Mention]) -> Result<IndexSet<u32>, AllocError>
+pub(crate) fn assigned_in(alloc: Global, mentions: &[Mention]) -> Result<IndexSet<u32>, AllocError>
     ensures { IfOk result (λ s. s.keys ≡ assigned_in (map mention_of mentions.now)) }
 {
     let mut assigned = IndexSet::new(alloc);

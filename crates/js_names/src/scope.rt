@@ -9,14 +9,14 @@ use std::alloc::Global;
 pub const TOP: u32 = u32::MAX;
 
 /// A block, a `for`, a function or the program: its own names, and the `var` names declared at any depth in it.
-pub struct Scope {
-    pub own: IndexMap<String, Declared>,
+pub(crate) struct Scope {
+    pub(crate) own: IndexMap<String, Declared>,
     /// A block and a `for` have those alone that are names of their own too: no other can clash there.
-    pub vars: IndexMap<String, Declared>,
+    pub(crate) vars: IndexMap<String, Declared>,
     /// It is a whole function's, or the program's.
-    pub whole: bool,
+    pub(crate) whole: bool,
     /// The offset of the function that it belongs to.
-    pub owner: u32,
+    pub(crate) owner: u32,
 }
 
 // It is let go by one call, written out.
@@ -32,15 +32,15 @@ impl Drop for Scope {
 }
 
 /// A walk over a tree: the scopes around where it is, the innermost last, and the mentions that it has met.
-pub struct Walk {
-    pub alloc: Global,
-    pub scopes: Vec<Scope>,
-    pub mentions: Vec<Mention>,
+pub(crate) struct Walk {
+    pub(crate) alloc: Global,
+    pub(crate) scopes: Vec<Scope>,
+    pub(crate) mentions: Vec<Mention>,
 }
 
 impl Walk {
     /// The mentions that it has met.
-    pub fn into_mentions(self) -> Vec<Mention>
+    pub(crate) fn into_mentions(self) -> Vec<Mention>
         ensures { result ≡ self.mentions }
     {
         let Walk {

@@ -21,7 +21,7 @@ use js_tree::{DeclareKind, Item, Name, Start, Stmt, Tree};
 use std::alloc::{AllocError, Global};
 
 /// The scope of a block.
-pub fn block_scope(alloc: Global, owner: u32, body: &[Stmt]) -> Result<Scope, AllocError>
+pub(crate) fn block_scope(alloc: Global, owner: u32, body: &[Stmt]) -> Result<Scope, AllocError>
     ensures { IfOk result (λ s. scope_of s ≡ block_scope owner
         (stmts_of (map plain_stmt body.now))) }
 {
@@ -37,7 +37,7 @@ pub fn block_scope(alloc: Global, owner: u32, body: &[Stmt]) -> Result<Scope, Al
 }
 
 /// The scope of a `for` with three parts.
-pub fn for_three_scope(
+pub(crate) fn for_three_scope(
     alloc: Global,
     owner: u32,
     start: &Start,
@@ -83,7 +83,7 @@ fn declare_for_of(
 }
 
 /// The scope of the list of a `for`, in which no function can copy the name.
-pub fn list_scope(
+pub(crate) fn list_scope(
     alloc: Global,
     owner: u32,
     kind: DeclareKind,
@@ -102,7 +102,7 @@ pub fn list_scope(
 }
 
 /// The scope of the body of a `for` over a list.
-pub fn for_of_scope(
+pub(crate) fn for_of_scope(
     alloc: Global,
     owner: u32,
     kind: DeclareKind,
@@ -173,7 +173,7 @@ fn declare_parameters(
 }
 
 /// The scope of a function.
-pub fn function_scope(
+pub(crate) fn function_scope(
     alloc: Global,
     owner: u32,
     names: &[Name],
@@ -262,7 +262,7 @@ fn vars_of_items(
 }
 
 /// The scope of the program.
-pub fn program_scope(alloc: Global, tree: &Tree) -> Result<Scope, AllocError>
+pub(crate) fn program_scope(alloc: Global, tree: &Tree) -> Result<Scope, AllocError>
     ensures { IfOk result (λ s. scope_of s ≡ program_scope (plain_tree tree.now)) }
 {
     let mut scope = Scope {

@@ -82,7 +82,7 @@ fn look_up(
 }
 
 /// One more mention.
-pub fn put(walk: &mut Walk, around: Around, what: What, name: Name) -> Result<(), AllocError>
+fn put(walk: &mut Walk, around: Around, what: What, name: Name) -> Result<(), AllocError>
     ensures { OnOk result (Adds walk.old walk.new
         (one_mention (scopes_in walk.old) around what name)) }
 {
@@ -93,7 +93,12 @@ pub fn put(walk: &mut Walk, around: Around, what: What, name: Name) -> Result<()
 }
 
 /// One more mention, at a name of the tree.
-pub fn put_name(walk: &mut Walk, around: Around, what: What, name: &Name) -> Result<(), AllocError>
+pub(crate) fn put_name(
+    walk: &mut Walk,
+    around: Around,
+    what: What,
+    name: &Name,
+) -> Result<(), AllocError>
     ensures { OnOk result (Adds walk.old walk.new
         (one_mention (scopes_in walk.old) around what name.now)) }
 {
@@ -101,7 +106,7 @@ pub fn put_name(walk: &mut Walk, around: Around, what: What, name: &Name) -> Res
 }
 
 /// One more mention, at a word.
-pub fn put_word(
+pub(crate) fn put_word(
     walk: &mut Walk,
     around: Around,
     what: What,
@@ -116,7 +121,7 @@ pub fn put_word(
 }
 
 /// A name that is read.
-pub fn put_read(walk: &mut Walk, around: Around, name: &Name) -> Result<(), AllocError>
+pub(crate) fn put_read(walk: &mut Walk, around: Around, name: &Name) -> Result<(), AllocError>
     ensures { OnOk result (Adds walk.old walk.new
         (read_mention (scopes_in walk.old) around name.now)) }
 {
@@ -131,7 +136,7 @@ pub fn put_read(walk: &mut Walk, around: Around, name: &Name) -> Result<(), Allo
 }
 
 /// A name that is assigned or updated.
-pub fn put_changed(walk: &mut Walk, around: Around, name: &Name) -> Result<(), AllocError>
+pub(crate) fn put_changed(walk: &mut Walk, around: Around, name: &Name) -> Result<(), AllocError>
     ensures { OnOk result (Adds walk.old walk.new
         (assign_mention (scopes_in walk.old) around name.now)) }
 {
@@ -144,14 +149,18 @@ pub fn put_changed(walk: &mut Walk, around: Around, name: &Name) -> Result<(), A
 }
 
 /// The first token of a function, or of the program.
-pub fn put_begin(walk: &mut Walk, owner: u32, spot: Spot) -> Result<(), AllocError>
+pub(crate) fn put_begin(walk: &mut Walk, owner: u32, spot: Spot) -> Result<(), AllocError>
     ensures { OnOk result (Adds walk.old walk.new (begin_mention (scopes_in walk.old) owner spot)) }
 {
     put_word(walk, in_function(owner), What::Begins, "", spot)
 }
 
 /// The parameters of a function.
-pub fn put_parameters(walk: &mut Walk, around: Around, names: &[Name]) -> Result<(), AllocError>
+pub(crate) fn put_parameters(
+    walk: &mut Walk,
+    around: Around,
+    names: &[Name],
+) -> Result<(), AllocError>
     ensures { OnOk result (Adds walk.old walk.new
         (parameter_mentions (scopes_in walk.old) around names.now)) }
 {
@@ -162,7 +171,7 @@ pub fn put_parameters(walk: &mut Walk, around: Around, names: &[Name]) -> Result
 }
 
 /// The role of a name that is declared by this word.
-pub fn declared_role(kind: DeclareKind) -> Role
+pub(crate) fn declared_role(kind: DeclareKind) -> Role
     ensures { result ≡ declared_role kind }
 {
     match kind {
@@ -173,7 +182,7 @@ pub fn declared_role(kind: DeclareKind) -> Role
 }
 
 /// The role of the name of a `for` over a list.
-pub fn for_of_role(kind: DeclareKind) -> Role
+pub(crate) fn for_of_role(kind: DeclareKind) -> Role
     ensures { result ≡ for_of_role kind }
 {
     match kind {
@@ -184,7 +193,7 @@ pub fn for_of_role(kind: DeclareKind) -> Role
 }
 
 /// Inside a function, and outside its loops.
-pub fn in_function(owner: u32) -> Around
+pub(crate) fn in_function(owner: u32) -> Around
     ensures { result ≡ in_function owner }
 {
     Around {
@@ -194,7 +203,7 @@ pub fn in_function(owner: u32) -> Around
 }
 
 /// Inside a loop of the same function.
-pub fn in_loop(around: Around) -> Around
+pub(crate) fn in_loop(around: Around) -> Around
     ensures { result ≡ in_loop around }
 {
     Around {
@@ -204,7 +213,7 @@ pub fn in_loop(around: Around) -> Around
 }
 
 /// One more scope.
-pub fn enter(walk: &mut Walk, scope: Scope) -> Result<(), AllocError>
+pub(crate) fn enter(walk: &mut Walk, scope: Scope) -> Result<(), AllocError>
     ensures { OnOk result (Entered walk.old walk.new scope) }
 {
     walk.scopes.push(scope)?;
@@ -212,7 +221,7 @@ pub fn enter(walk: &mut Walk, scope: Scope) -> Result<(), AllocError>
 }
 
 /// Takes the innermost scope off.
-pub fn leave(walk: &mut Walk)
+pub(crate) fn leave(walk: &mut Walk)
     ensures { Left walk.old walk.new }
 {
     let _ = walk.scopes.pop();

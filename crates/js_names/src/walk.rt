@@ -8,7 +8,7 @@ ghost use Rattle.js_names.specs.Unresolved.{one_mention, begin_mention, paramete
 ghost use Rattle.js_names.specs.Mentions.{mentions};
 ghost use Rattle.js_names.specs.Views.{mention_of};
 ghost use Rattle.js_names.specs.inner.Walks.{Adds, Enters, EntersForOf, scopes_in};
-ghost use Rattle.js_names.specs.inner.TreeMentions.{tree_mentions, field_mentions, declarator_mentions, tree_stmt_mentions, tree_item_mentions, block_mentions, arrow_mentions, body_mentions, declared_mentions, listed_mentions, turn_mentions, perhaps_tree_mentions, start_tree_mentions};
+ghost use Rattle.js_names.specs.inner.TreeMentions.{tree_mentions, field_mentions, declarator_mentions, tree_stmt_mentions, tree_item_mentions, block_mentions, arrow_mentions, body_mentions, declared_mentions, listed_mentions, iteration_mentions, perhaps_tree_mentions, start_tree_mentions};
 
 use crate::first::program_spot;
 use crate::forms::{called_builtin, object_of, value_builtin};
@@ -279,7 +279,7 @@ fn put_stmt(walk: &mut Walk, around: Around, stmt: &Stmt) -> Result<(), AllocErr
         }
         StmtForm::ForOf(kind, name, list, body) => {
             put_listed(walk, around, *kind, name, list)?;
-            put_turns(walk, around, *kind, name, body)
+            put_iterations(walk, around, *kind, name, body)
         }
         StmtForm::Break(spot) => put_word(walk, around, What::LoopWord, "break", *spot),
         StmtForm::Continue(spot) => put_word(walk, around, What::LoopWord, "continue", *spot),
@@ -311,7 +311,7 @@ fn put_listed(
 
 /// The body of a `for` over a list.
 #[cycle(walk)]
-fn put_turns(
+fn put_iterations(
     walk: &mut Walk,
     around: Around,
     kind: DeclareKind,
@@ -319,7 +319,7 @@ fn put_turns(
     body: &Stmt,
 ) -> Result<(), AllocError>
     ensures { OnOk result (Adds walk.old walk.new
-        (turn_mentions (scopes_in walk.old) around kind name.now body.now)) }
+        (iteration_mentions (scopes_in walk.old) around kind name.now body.now)) }
 {
     let scope = for_of_scope(walk.alloc, around.owner, kind, name, body)?;
     enter(walk, scope)?;
@@ -425,7 +425,7 @@ fn put_items(walk: &mut Walk, items: &[Item]) -> Result<(), AllocError>
 }
 
 /// The mentions of a program.
-pub fn mentions_of(alloc: Global, tree: &Tree) -> Result<Vec<Mention>, AllocError>
+pub(crate) fn mentions_of(alloc: Global, tree: &Tree) -> Result<Vec<Mention>, AllocError>
     ensures { IfOk result (λ found. map mention_of found.items ≡ mentions (plain_tree tree.now)) }
 {
     let mut walk = Walk {

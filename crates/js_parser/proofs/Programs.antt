@@ -10,7 +10,7 @@ use Rattle.js_tree.specs.Views.{plain_item}
 use Rattle.js_lexer.specs.declared.sort.Sort.{Sort}
 use Rattle.js_grammar.specs.Trees.{IsTree, HasNoTree}
 use Rattle.js_grammar.specs.Statements as stmts
-use Rattle.js_grammar.specs.Reading.{next_turn, run, and_then}
+use Rattle.js_grammar.specs.Reading.{next_iteration, run, and_then}
 use Rattle.js_grammar.specs.Reader.{readers}
 use Rattle.js_grammar.proofs.Unique as unique
 use Rattle.js_grammar.specs.Sorts.{is, spot}
@@ -29,10 +29,10 @@ pub item_statement : (t : Token) (ts : List Token) → is Sort.Function t ≡ fa
     next_item (t ∷ ts) ≡ and_then ((readers MOST_NESTING).stmt (t ∷ ts)) (λ s r. Some (p.statement (spot t) s, r))
 item_statement t ts h = item_is (MOST_NESTING - 1) t ts h
 
-pub items_turn : (is : List PlainItem) (ts : List Token) →
+pub items_iteration : (is : List PlainItem) (ts : List Token) →
     run (stmts.items_step (MOST_NESTING - 1) (readers (MOST_NESTING - 1))) is ts ≡
-    next_turn (run (stmts.items_step (MOST_NESTING - 1) (readers (MOST_NESTING - 1)))) (stmts.items_step (MOST_NESTING - 1) (readers (MOST_NESTING - 1)) is ts)
-items_turn = loops.items_turn (MOST_NESTING - 1)
+    next_iteration (run (stmts.items_step (MOST_NESTING - 1) (readers (MOST_NESTING - 1)))) (stmts.items_step (MOST_NESTING - 1) (readers (MOST_NESTING - 1)) is ts)
+items_iteration = loops.items_iteration (MOST_NESTING - 1)
 
 pub map_push_item : (is : List Item) (i : Item) → map plain_item (is ++ i ∷ []) ≡ map plain_item is ++ plain_item i ∷ []
 map_push_item = list.map_push plain_item

@@ -46,7 +46,7 @@ fn item(cursor: &mut Cursor<'_>) -> Result<Item, Stop>
 }
 
 /// All that the program lists.
-#[tactic(auto, using(crate::proofs::Programs::items_turn, crate::proofs::Programs::map_push_item))]
+#[tactic(auto, using(crate::proofs::Programs::items_iteration, crate::proofs::Programs::map_push_item))]
 fn tree_of(alloc: Global, rest: &[Token]) -> Result<Tree, Stop>
     ensures { IsItems rest.now result }
 {

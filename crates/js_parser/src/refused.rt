@@ -25,7 +25,7 @@ fn is_refused_kind(kind: &Kind, unsupported: bool, colon: bool) -> bool
 }
 
 /// The line of the first token that the language refuses.
-pub fn unsupported_line(tokens: &[Token]) -> Option<u32>
+pub(crate) fn unsupported_line(tokens: &[Token]) -> Option<u32>
     ensures { result ≡ first_unsupported false tokens.now }
 {
     let mut rest = tokens;

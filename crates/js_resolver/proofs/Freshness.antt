@@ -6,7 +6,7 @@ use Rattle.js_names.specs.Mentions.{Mention}
 use Rattle.js_resolver.specs.Variables.{slot_at}
 use Rattle.js_resolver.specs.NodeForms.{fresh}
 
--- one more turn of a loop: all : what is declared by a list, one : by its first element
+-- one more iteration of a loop: all : what is declared by a list, one : by its first element
 pub fresh_more : {X : Type 0} (ps : List Mention) (one : X → List Entry) (all : List X → List Entry) (xs : List X) (i : ℕ) (d x : X) (a b w : List ℕ)
     → ((y : X) (ys : List X) → all (y ∷ ys) ≡ one y ++ all ys)
     → i < length xs → x ≡ get_or xs i d → a ++ fresh ps (all (drop i xs)) ≡ w → b ≡ a ++ fresh ps (one x) → b ++ fresh ps (all (drop (i + 1) xs)) ≡ w
@@ -20,7 +20,7 @@ fresh_more ps one all xs i d x a b w s h e inv k =
     ∙ (ap (λ z. a ++ fresh ps z) (sym (s first rest))
     ∙ (ap (λ z. a ++ fresh ps (all z)) (sym (drop_more xs i d h)) ∙ inv)))))
 
--- and after the last turn
+-- and after the last iteration
 pub fresh_none : {X : Type 0} (ps : List Mention) (all : List X → List Entry) (xs : List X) (i : ℕ) (a w : List ℕ) → all [] ≡ [] → length xs ≤ i → a ++ fresh ps (all (drop i xs)) ≡ w → a ≡ w
 fresh_none ps all xs i a w s h inv =
     sym (append-nil a) ∙ (ap (λ z. a ++ fresh ps z) (sym s) ∙ (ap (λ z. a ++ fresh ps (all z)) (sym (drop_all i xs h)) ∙ inv))

@@ -9,7 +9,7 @@ use Rattle.js_tree.specs.Plain.{PlainExpr, PlainField, PlainPerhaps, PlainDeclar
 use Rattle.js_lexer.specs.declared.sort.Sort.{Sort}
 use Rattle.js_grammar.specs.Tokens.{lexical, if_lexical, starts_lexical}
 use Rattle.js_grammar.specs.Grammar.{Level, Spells, number_of, words_of, true_of, false_of, null_of, name_of, round, list_of, fields_in, function_in, calls, no_sign, signed, update_before, update_after, operators, no_choice, choice, no_assignment, assignment, function_value, function_block, Called, called_first, called_member, called_index, called_with, Operated, operated_first, operated_more, Elements, elements_none, elements_last, elements_more, Field, field_pair, field_name, Fields, fields_none, fields_last, fields_more, Declarator, declarator_value, declarator_name, Declarators, declarators_last, declarators_more, Start, start_nothing, start_declares, start_value, Perhaps, perhaps_none, perhaps_some, Test, test_of, Statements, statements_end, statements_more, Body, body_of, Statement, empty_of, block_of, declaration_of, expression_of, if_only, if_both, while_loop, for_three, for_of, break_end, continue_end, return_end, return_value, item_statement, item_function, SpellsTree, tree_end, tree_more}
-use Rattle.js_names.specs.Scoped.{is_lexical, ScopedExpr, ScopedExprs, ScopedFields, ScopedPerhaps, ScopedDeclarators, ScopedStart, ScopedBody, ScopedStmt, ScopedStmts, ScopedItems}
+use Rattle.js_names.specs.Lexicals.{is_lexical, ScopedExpr, ScopedExprs, ScopedFields, ScopedPerhaps, ScopedDeclarators, ScopedStart, ScopedBody, ScopedStmt, ScopedStmts, ScopedItems}
 
 not_lexical : (line : _) (k : DeclareKind) (ds : PlainDeclarators) → is_some (if_lexical (Some k)) ≡ false → is_lexical (on line (p.declaration k ds)) ≡ false
 not_lexical line DeclareKind.Const ds h = absurd (true≢false h)

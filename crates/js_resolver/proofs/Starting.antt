@@ -28,7 +28,7 @@ first_some_of a [] = refl
 first_some_of a (None ∷ os) = first_some_of a os
 first_some_of a (Some x ∷ os) = refl
 
--- one more turn of a loop
+-- one more iteration of a loop
 pub notes_more : {X : Type 0} (k : ℕ → X → Option PlainConstant) (xs : List X) (i : ℕ) (d x : X) (a b c : Known ConstantStart) → i < length xs → x ≡ get_or xs i d
     → NotesStart a b (λ q. first_of (map (k q) (take i xs))) → NotesStart b c (λ q. k q x) → NotesStart a c (λ q. first_of (map (k q) (take (i + 1) xs)))
 notes_more k xs i d x a b c h e m n q =

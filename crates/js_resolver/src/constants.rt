@@ -129,7 +129,7 @@ fn starts_of(
 }
 
 /// What each constant is before the program runs, in the order of their declarations.
-pub fn constant_starts(
+pub(crate) fn constant_starts(
     alloc: Global,
     tables: &NameTables,
     items: &[Item],

@@ -580,7 +580,7 @@ fn emit_item(
 }
 
 /// The nodes and functions of all that a program lists, and the numbers of its statements.
-pub fn emit_items(
+pub(crate) fn emit_items(
     tables: &NameTables,
     emitter: &mut Emitter,
     items: &[Item],

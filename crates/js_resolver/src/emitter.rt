@@ -8,14 +8,14 @@ use std::alloc::{AllocError, Global};
 
 /// The nodes and the functions that are emitted so far.
 #[derive(Drop)]
-pub struct Emitter {
-    pub alloc: Global,
-    pub nodes: Vec<Node>,
-    pub functions: Vec<Body>,
+pub(crate) struct Emitter {
+    pub(crate) alloc: Global,
+    pub(crate) nodes: Vec<Node>,
+    pub(crate) functions: Vec<Body>,
 }
 
 /// One more node, and its number. No program has this many that it would pass 32 bits.
-pub fn put_node(emitter: &mut Emitter, line: u32, form: NodeForm) -> Result<u32, AllocError>
+pub(crate) fn put_node(emitter: &mut Emitter, line: u32, form: NodeForm) -> Result<u32, AllocError>
     ensures { IfOk result (λ n. Puts emitter.old emitter.new line form n) }
 {
     let number = emitter.nodes.len();
@@ -27,7 +27,11 @@ pub fn put_node(emitter: &mut Emitter, line: u32, form: NodeForm) -> Result<u32,
 }
 
 /// A function before those that stand at this place and after it.
-pub fn put_function(emitter: &mut Emitter, place: usize, body: Body) -> Result<(), AllocError>
+pub(crate) fn put_function(
+    emitter: &mut Emitter,
+    place: usize,
+    body: Body,
+) -> Result<(), AllocError>
     requires { place ≤ length emitter.old.functions.items }
     ensures nodes { OnOk result (emitter.new.nodes.items ≡ emitter.old.nodes.items) }
     ensures functions { OnOk result (emitter.new.functions.items

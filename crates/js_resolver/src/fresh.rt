@@ -60,7 +60,7 @@ fn push_stmt(tables: &NameTables, slots: &mut Vec<u32>, stmt: &Stmt) -> Result<(
 }
 
 /// The slots of the `let` and `const` of a block.
-pub fn block_slots(
+pub(crate) fn block_slots(
     alloc: Global,
     tables: &NameTables,
     body: &[Stmt],
@@ -76,7 +76,7 @@ pub fn block_slots(
 }
 
 /// The slots of the `let` and `const` of the head of a `for`.
-pub fn start_slots(
+pub(crate) fn start_slots(
     alloc: Global,
     tables: &NameTables,
     start: &Start,

@@ -18,11 +18,11 @@ use std::alloc::{AllocError, Global};
 use std::marker::Model;
 
 /// The constants and the variables of a program.
-pub struct Meanings {
+pub(crate) struct Meanings {
     /// The constants, in the order of their numbers.
-    pub constants: IndexSet<u32>,
+    pub(crate) constants: IndexSet<u32>,
     /// What the name at each offset of the text stands for.
-    pub variables: IndexMap<u32, Variable>,
+    pub(crate) variables: IndexMap<u32, Variable>,
 }
 
 // They are let go by one call, written out.
@@ -36,11 +36,11 @@ impl Drop for Meanings {
 }
 
 /// The functions of a program.
-pub struct Functions {
+pub(crate) struct Functions {
     /// The functions, in the order of their numbers.
-    pub codes: IndexSet<u32>,
+    pub(crate) codes: IndexSet<u32>,
     /// The function around each function.
-    pub around: IndexMap<u32, u32>,
+    pub(crate) around: IndexMap<u32, u32>,
 }
 
 // They are let go by one call, written out.
@@ -55,15 +55,15 @@ impl Drop for Functions {
 
 /// What functions copy, and what is undefined as they begin.
 #[derive(Drop)]
-pub struct Holdings {
+pub(crate) struct Holdings {
     /// The captures of each function.
-    pub captured: IndexMap<u32, IndexSet<u32>>,
+    pub(crate) captured: IndexMap<u32, IndexSet<u32>>,
     /// The `var`s of each function.
-    pub vars: IndexMap<u32, IndexSet<u32>>,
+    pub(crate) vars: IndexMap<u32, IndexSet<u32>>,
 }
 
 /// The mentions of a program, with tables of what stands there. Contracts see the mentions.
-pub struct NameTables {
+pub(crate) struct NameTables {
     /// The mentions, and the variables of each function in the order of their slots.
     names: Names,
     meanings: Meanings,
@@ -167,7 +167,7 @@ fn holdings_of(
 
 impl NameTables {
     /// The tables of the mentions that the check of names answers.
-    pub fn new(alloc: Global, names: Names) -> Result<NameTables, AllocError>
+    pub(crate) fn new(alloc: Global, names: Names) -> Result<NameTables, AllocError>
         requires assigned { names.assigned.keys
             ≡ assigned_in (map mention_of names.mentions.items) }
         requires slots { (f : _) → held_in names.slots f
@@ -187,7 +187,7 @@ impl NameTables {
     }
 
     /// What the name at an offset of the text stands for.
-    pub fn variable(&self, at: u32) -> Variable
+    pub(crate) fn variable(&self, at: u32) -> Variable
         ensures { result ≡ named_at self.now at }
     {
         match self.meanings.variables.get(&at) {
@@ -197,7 +197,7 @@ impl NameTables {
     }
 
     /// The slot that the name at an offset of the text stands for.
-    pub fn slot(&self, at: u32) -> u32
+    pub(crate) fn slot(&self, at: u32) -> u32
         ensures { result ≡ slot_at self.now at }
     {
         match self.variable(at) {
@@ -206,30 +206,29 @@ impl NameTables {
         }
     }
 
-    /// The number of the function that begins at an offset of the text. Takes no memory; its only error is a
-    /// number past 32 bits.
-    pub fn code(&self, at: u32) -> Result<u32, AllocError>
+    /// The number of the function that begins at an offset of the text. Its only error is a number past 32 bits.
+    pub(crate) fn code(&self, at: u32) -> Result<u32, AllocError>
         ensures { IfOk result (λ n. n ≡ code_at self.now at) }
     {
         index_in(&self.functions.codes, at)
     }
 
     /// The constants, in the order of their declarations.
-    pub fn constants(&self) -> &[u32]
+    pub(crate) fn constants(&self) -> &[u32]
         ensures { result.now ≡ constants_of (assigned_in self.now) self.now }
     {
         self.meanings.constants.as_slice()
     }
 
     /// The mentions, in text order.
-    pub fn mentions(&self) -> &[Mention]
+    pub(crate) fn mentions(&self) -> &[Mention]
         ensures { map mention_of result.now ≡ self.now }
     {
         &self.names.mentions
     }
 
     /// The line of the first token of the program.
-    pub fn line(&self) -> u32
+    pub(crate) fn line(&self) -> u32
         ensures { result ≡ first_line self.now }
     {
         match self.names.mentions.first() {
@@ -302,7 +301,7 @@ impl NameTables {
     }
 
     /// The function that begins at an offset of the text, with what a call of it runs.
-    pub fn body(
+    pub(crate) fn body(
         &self,
         alloc: Global,
         function: u32,

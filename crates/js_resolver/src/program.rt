@@ -102,7 +102,7 @@ fn program_of_names(alloc: Global, names: Names, items: &[Item]) -> Result<Progr
 ///
 /// # Errors
 ///
-/// The fault of a name; or `Memory`, where no memory was left.
+/// The fault of a name; or `Memory`, when out of memory.
 pub fn resolve(alloc: Global, tree: &Tree) -> Result<Program, NameFault>
     requires spelled { IsSpelled (plain_tree tree.now) }
     ensures resolved { IfOk result (λ p. resolved (plain_tree tree.now) ≡ Some p) }

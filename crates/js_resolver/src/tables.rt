@@ -14,7 +14,7 @@ use js_program::Variable;
 use std::alloc::{AllocError, Global};
 
 /// Where a number stands in a set. No program has this many that it would pass 32 bits.
-pub fn index_in(set: &IndexSet<u32>, number: u32) -> Result<u32, AllocError>
+pub(crate) fn index_in(set: &IndexSet<u32>, number: u32) -> Result<u32, AllocError>
     ensures { IfOk result (λ n. n ≡ index_in set.now.keys number) }
 {
     let index = set.get_index_of(&number).unwrap_or(0);
@@ -95,7 +95,7 @@ fn note(
 }
 
 /// What the name at each offset of the text stands for.
-pub fn variables_by_offset(
+pub(crate) fn variables_by_offset(
     alloc: Global,
     assigned: &IndexSet<u32>,
     constants: &IndexSet<u32>,
@@ -125,7 +125,7 @@ fn constant_at(assigned: &IndexSet<u32>, mention: &Mention) -> Option<u32>
 }
 
 /// The constants, in the order of their declarations.
-pub fn constants_of(
+pub(crate) fn constants_of(
     alloc: Global,
     assigned: &IndexSet<u32>,
     mentions: &[Mention],
@@ -159,7 +159,7 @@ fn function_at(mention: &Mention) -> Option<u32>
 }
 
 /// The functions, in the order of their first tokens.
-pub fn functions_in(alloc: Global, mentions: &[Mention]) -> Result<IndexSet<u32>, AllocError>
+pub(crate) fn functions_in(alloc: Global, mentions: &[Mention]) -> Result<IndexSet<u32>, AllocError>
     ensures { IfOk result (λ s. s.keys ≡ functions_in (map mention_of mentions.now)) }
 {
     let mut functions = IndexSet::new(alloc);
@@ -208,7 +208,7 @@ fn note_around(
 }
 
 /// The function around each function.
-pub fn functions_around(
+pub(crate) fn functions_around(
     alloc: Global,
     mentions: &[Mention],
 ) -> Result<IndexMap<u32, u32>, AllocError>
@@ -239,7 +239,7 @@ fn push_slot(
 }
 
 /// The slots of some variables in a function.
-pub fn slots_among(
+pub(crate) fn slots_among(
     alloc: Global,
     held: &IndexMap<u32, IndexSet<u32>>,
     function: u32,

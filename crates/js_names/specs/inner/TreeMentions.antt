@@ -77,8 +77,8 @@ listed_mentions scopes a kind name e =
     one_mention inner a (What.Declares (for_of_role kind)) name ++ tree_mentions inner a e
 
 -- and its body
-abbrev pub turn_mentions : List Scope → Around → DeclareKind → Name → Stmt → List Unresolved
-turn_mentions scopes a kind name s =
+abbrev pub iteration_mentions : List Scope → Around → DeclareKind → Name → Stmt → List Unresolved
+iteration_mentions scopes a kind name s =
     tree_stmt_mentions (for_of_scope a.owner kind name (plain_stmt s) ∷ scopes) (in_loop a) s
 
 abbrev pub declared_mentions : List Scope → Spot → Name → List Name → List Stmt → List Unresolved

@@ -153,9 +153,9 @@ pub list_kept : (f : ℕ) (kind : DeclareKind) (name : Name) (q : List ℕ) (d :
 unfolding list_scope
 list_kept f kind name q d h = (first_kept f false (entry name (for_of_role kind) top f false 0 ∷ []) q d (each_kept f top kind name, tt) h).owner
 
-pub turn_kept : (f : ℕ) (kind : DeclareKind) (name : Name) (s : PlainStmt) (q : List ℕ) (d : Declared) → found_here (for_of_scope f kind name s) q ≡ Some d → d.owner ≡ f
+pub iteration_kept : (f : ℕ) (kind : DeclareKind) (name : Name) (s : PlainStmt) (q : List ℕ) (d : Declared) → found_here (for_of_scope f kind name s) q ≡ Some d → d.owner ≡ f
 unfolding for_of_scope
-turn_kept f kind name s q d h = (first_kept f false (entry name (for_of_role kind) name.spot.at f false 0 ∷ []) q d (each_kept f name.spot.at kind name, tt) h).owner
+iteration_kept f kind name s q d h = (first_kept f false (entry name (for_of_role kind) name.spot.at f false 0 ∷ []) q d (each_kept f name.spot.at kind name, tt) h).owner
 
 pub function_kept : (f : ℕ) (names : List Name) (ss : PlainStmts) (q : List ℕ) (d : Declared) → found_here (function_scope f names ss) q ≡ Some d → d.owner ≡ f
 unfolding function_scope

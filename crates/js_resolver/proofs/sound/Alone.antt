@@ -27,7 +27,7 @@ use Rattle.js_resolver.proofs.sound.Mentions.{captured}
 use Rattle.js_resolver.proofs.sound.Program.{program_scopes, AllAlone}
 use Rattle.js_resolver.proofs.sound.Room.{NoRepeats}
 use Rattle.js_resolver.proofs.sound.Walk.{IsClosed, AllIn, walks_append, walks_mention, walks_function, stmt_walks, stmts_walks}
-use Rattle.js_resolver.proofs.apart.Declared.{block_kept, for_kept, list_kept, turn_kept, function_kept}
+use Rattle.js_resolver.proofs.apart.Declared.{block_kept, for_kept, list_kept, iteration_kept, function_kept}
 
 -- a variable of the top level that stands in its list, or is a `var`
 abbrev IsLoose : Declared → Type 0
@@ -191,7 +191,7 @@ inside_closed f = record {
   block = λ g ss scopes k. inside_block f g (block_scope g ss) scopes refl (block_kept g ss) k;
   head = λ g start s scopes k. inside_block f g (for_three_scope g start s) scopes refl (for_kept g start s) k;
   list = λ g kind name scopes k. inside_block f g (list_scope g kind name) scopes refl (list_kept g kind name) k;
-  turn = λ g kind name s scopes k. inside_block f g (for_of_scope g kind name s) scopes refl (turn_kept g kind name s) k;
+  iteration = λ g kind name s scopes k. inside_block f g (for_of_scope g kind name s) scopes refl (iteration_kept g kind name s) k;
   function = λ g h names ss scopes absent k. inside_function f g h (function_scope h names ss) scopes refl refl (function_kept h names ss) absent k;
 }
 
@@ -222,7 +222,7 @@ outside_closed f = record {
   block = λ g ss scopes k. k;
   head = λ g start s scopes k. k;
   list = λ g kind name scopes k. k;
-  turn = λ g kind name s scopes k. k;
+  iteration = λ g kind name s scopes k. k;
   function = λ g h names ss scopes absent k m. elim m as (λ _. ⊥) [ inl e ↦ absent (sym e) | inr e ↦ k e ];
 }
 

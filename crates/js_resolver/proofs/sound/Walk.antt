@@ -21,7 +21,7 @@ pub record IsClosed (P : ℕ → List Scope → Type 0) (f : ℕ) : Type 0 where
   pub block : (g : ℕ) (ss : PlainStmts) (scopes : List Scope) → P g scopes → P g (block_scope g ss ∷ scopes)
   pub head : (g : ℕ) (start : PlainStart) (s : PlainStmt) (scopes : List Scope) → P g scopes → P g (for_three_scope g start s ∷ scopes)
   pub list : (g : ℕ) (kind : DeclareKind) (name : Name) (scopes : List Scope) → P g scopes → P g (list_scope g kind name ∷ scopes)
-  pub turn : (g : ℕ) (kind : DeclareKind) (name : Name) (s : PlainStmt) (scopes : List Scope) → P g scopes → P g (for_of_scope g kind name s ∷ scopes)
+  pub iteration : (g : ℕ) (kind : DeclareKind) (name : Name) (s : PlainStmt) (scopes : List Scope) → P g scopes → P g (for_of_scope g kind name s ∷ scopes)
   pub function : (g h : ℕ) (names : List Name) (ss : PlainStmts) (scopes : List Scope) → (h ≡ f → ⊥) → P g scopes → P h (function_scope h names ss ∷ scopes)
 
 abbrev pub AllIn : (ℕ → List Scope → Type 0) → List Unresolved → Type 0
@@ -160,7 +160,7 @@ mutual
       let inner = for_of_scope a.owner kind name s ∷ scopes in
       let m = r.list a.owner kind name scopes k in
       walks_append P f (one_mention listed a (What.Declares (for_of_role kind)) name) (expr_mentions listed a e ++ stmt_mentions inner (in_loop a) s) (walks_mention P f listed a (What.Declares (for_of_role kind)) name m)
-      (walks_append P f (expr_mentions listed a e) (stmt_mentions inner (in_loop a) s) (expr_walks P f r listed a e m) (stmt_walks P f r inner (in_loop a) s (r.turn a.owner kind name s scopes k)))
+      (walks_append P f (expr_mentions listed a e) (stmt_mentions inner (in_loop a) s) (expr_walks P f r listed a e m) (stmt_walks P f r inner (in_loop a) s (r.iteration a.owner kind name s scopes k)))
   stmt_form_walks P f r scopes a (t.break_of spot) k = λ absent. (k, tt)
   stmt_form_walks P f r scopes a (t.continue_of spot) k = λ absent. (k, tt)
   stmt_form_walks P f r scopes a (t.return_nothing spot) k = λ absent. (k, tt)

@@ -9,7 +9,7 @@ use Rattle.js_names.specs.Scopes.{block_scope, for_three_scope, list_scope, for_
 use Rattle.js_names.specs.Forms.{called_builtin}
 use Rattle.js_names.specs.Unresolved.{one_mention, word_at, assign_mention, begin_mention, parameter_mentions, in_function, in_loop, declared_role}
 use Rattle.js_names.specs.inner.Walks.{Adds, Enters, scopes_in}
-use Rattle.js_names.specs.inner.TreeMentions.{tree_mentions, field_mentions, declarator_mentions, perhaps_tree_mentions, start_tree_mentions, tree_stmt_mentions, listed_mentions, turn_mentions}
+use Rattle.js_names.specs.inner.TreeMentions.{tree_mentions, field_mentions, declarator_mentions, perhaps_tree_mentions, start_tree_mentions, tree_stmt_mentions, listed_mentions, iteration_mentions}
 use Rattle.js_names.proofs.Adding.{adds_as, adds_none, adds_then, adds_both, adds_more, adds_under, enters_under, each_under}
 use Rattle.js_names.proofs.Exprs.{number_mentions, words_mentions, truth_mentions, null_mentions, use_mentions, list_mentions, in_fields_mentions, in_member_mentions, index_mentions, call_mentions, unary_mentions, update_mentions, binary_mentions, conditional_mentions, assign_mentions, arrow_value_mentions, arrow_block_mentions, function_mentions}
 use Rattle.js_names.proofs.Stmts.{declarator_parts, present_mentions, absent_mentions, nothing_mentions, declares_mentions, evaluates_mentions, empty_mentions, in_block_mentions, declaration_mentions, expression_mentions, if_mentions, if_else_mentions, while_mentions, in_for_mentions, in_each_mentions, break_mentions, continue_mentions, return_nothing_mentions, return_mentions}
@@ -209,15 +209,15 @@ put_stmt-returns-in_ok-put_stmt-in-ForThree t c =
 
 pub put_stmt-returns-in_ok-put_listed-in-ForOf : goal.put_stmt-returns-in_ok-put_listed-in-ForOf
 put_stmt-returns-in_ok-put_listed-in-ForOf t c =
-    adds_as c.put_turns.result c.args.walk.now c.put_turns.new.walk _ _ (in_each_mentions (scopes_in c.args.walk.now) c.args.around c.args.stmt.now c.in-ForOf.kind c.in-ForOf.name c.in-ForOf.list c.in-ForOf.body c.deref-in-ForOf.result.now c.in-ForOf.is c.deref-in-ForOf.ensures)
-    (adds_then c.put_turns.result (λ s. listed_mentions s c.args.around c.in-ForOf.kind c.in-ForOf.name c.in-ForOf.list) (λ s. turn_mentions s c.args.around c.in-ForOf.kind c.in-ForOf.name c.deref-in-ForOf.result.now) c.args.walk.now c.put_listed.new.walk c.put_turns.new.walk c.in_ok-put_listed-in-ForOf.ensures c.put_turns.ensures)
+    adds_as c.put_iterations.result c.args.walk.now c.put_iterations.new.walk _ _ (in_each_mentions (scopes_in c.args.walk.now) c.args.around c.args.stmt.now c.in-ForOf.kind c.in-ForOf.name c.in-ForOf.list c.in-ForOf.body c.deref-in-ForOf.result.now c.in-ForOf.is c.deref-in-ForOf.ensures)
+    (adds_then c.put_iterations.result (λ s. listed_mentions s c.args.around c.in-ForOf.kind c.in-ForOf.name c.in-ForOf.list) (λ s. iteration_mentions s c.args.around c.in-ForOf.kind c.in-ForOf.name c.deref-in-ForOf.result.now) c.args.walk.now c.put_listed.new.walk c.put_iterations.new.walk c.in_ok-put_listed-in-ForOf.ensures c.put_iterations.ensures)
 
 pub put_listed-returns : goal.put_listed-returns
 put_listed-returns t c =
     each_under (λ s. tree_mentions s c.args.around c.args.list.now) c.args.walk.now c.enter_list.new.walk c.put_expr.new.walk c.leave.new.walk c.args.around c.args.kind c.args.name.now (list_scope c.args.around.owner c.args.kind c.args.name.now) c.in_ok-enter_list.ensures c.in_ok-put_expr.ensures c.leave.ensures
 
-pub put_turns-returns : goal.put_turns-returns
-put_turns-returns t c =
+pub put_iterations-returns : goal.put_iterations-returns
+put_iterations-returns t c =
     adds_under (λ s. tree_stmt_mentions s (in_loop c.args.around) c.args.body.now) c.args.walk.now c.enter.new.walk c.put_stmt.new.walk c.leave.new.walk c.in_ok-scope.scope (for_of_scope c.args.around.owner c.args.kind c.args.name.now (plain_stmt c.args.body.now)) c.in_ok-scope.ensures c.in_ok-enter.ensures
     (subst (λ z. Adds c.enter.new.walk c.put_stmt.new.walk (tree_stmt_mentions (scopes_in c.enter.new.walk) z c.args.body.now)) c.in_loop.ensures c.in_ok-put_stmt.ensures)
     c.leave.ensures
