@@ -87,7 +87,7 @@ unfolding readers
 statement_in zero ts h = absurd (omega arith)
 statement_in (suc n) ts h = rw sub-one refl
 
--- tokens that are wanting
+-- tokens that are missing
 
 pub body_value : (n : ℕ) (t : Token) (xs : List Name) (ts : List Token) → starts Sort.LeftBrace ts ≡ false →
     exprs.body n (readers n) t xs ts ≡ and_then ((readers n).expr Assignment ts) (λ e r. Some (at 0 t.line (p.arrow_value (spot t) xs e), r))

@@ -5,11 +5,11 @@ ghost use Rattle.js_tree.specs.Views.{plain_expr, plain_field, plain_declarator,
 ghost use Rattle.js_tree.specs.Nesting.{nesting, deepest, deepest_field, deepest_declarator, perhaps_nesting, start_nesting, deepest_stmt};
 ghost use Rattle.js_grammar.specs.Grammar.{Assignment, Operators};
 ghost use Rattle.js_grammar.specs.Reading.{run};
-ghost use Rattle.js_grammar.specs.Expressions.{operated_step, round_at, function_at, assign_at as assign_read, primary as primary_read, elements as elements_read, field_at, fields as fields_read, declarator as declarator_read, declarators_of_kind, statements as statements_read, closed_statements, called as called_read, index_turn, call_turn, signed as signed_read, operators as operators_read, choice as choice_read, arrow as arrow_read};
+ghost use Rattle.js_grammar.specs.Expressions.{operated_step, round_at, function_at, assign_at as assign_read, primary as primary_read, elements as elements_read, field_at, fields as fields_read, declarator as declarator_read, declarators_of_kind, statements as statements_read, closed_statements, called as called_read, index_iteration, call_iteration, signed as signed_read, operators as operators_read, choice as choice_read, arrow as arrow_read};
 ghost use Rattle.js_grammar.specs.Statements.{body_at, test as test_read, declaration_at, if_at, while_at, start as start_read, perhaps as perhaps_read, for_three_at, for_of_at, for_at, return_at, expression_at};
 ghost use Rattle.js_grammar.specs.Reader.{readers};
 ghost use Rattle.js_cursor.specs.Passed.{at_first};
-ghost use Rattle.js_cursor.specs.Read.{IsRead, IsExpr, IsStmt, IsTurn};
+ghost use Rattle.js_cursor.specs.Read.{IsRead, IsExpr, IsStmt, IsIteration};
 
 use crate::leaves::{break_of, continue_of, member, number, postfix, text, used};
 use js_cursor::cursor::{begins, is_sort, next, sort_of, spot_of};
@@ -141,7 +141,7 @@ fn operators(cursor: &mut Cursor<'_>, level: u8, inner: u32) -> Answer<Expr>
 
 /// This many operators of the level with their operands, after the first, to the left.
 #[cycle(descent)]
-#[tactic(auto, using(js_cursor::proofs::Loops::operated_turn, crate::proofs::Chains::chain_deep, crate::proofs::Chains::chain_more, crate::proofs::Chains::chain_broken))]
+#[tactic(auto, using(js_cursor::proofs::Loops::operated_iteration, crate::proofs::Chains::chain_deep, crate::proofs::Chains::chain_more, crate::proofs::Chains::chain_broken))]
 fn chain(
     cursor: &mut Cursor<'_>,
     line: u32,
@@ -204,7 +204,7 @@ fn signed(cursor: &mut Cursor<'_>, inner: u32) -> Answer<Expr>
 
 /// A primary, and this many of `.word`, `[ expression ]` and `( arguments )`.
 #[cycle(descent)]
-#[tactic(auto, using(js_cursor::proofs::Loops::called_turn))]
+#[tactic(auto, using(js_cursor::proofs::Loops::called_iteration))]
 fn called(cursor: &mut Cursor<'_>, inner: u32) -> Answer<Expr>
     requires { inner < u32.MAX }
     ensures { IsExpr (called_read inner (readers inner)) (inner + 1) cursor.old cursor.new result }
@@ -239,8 +239,8 @@ fn called(cursor: &mut Cursor<'_>, inner: u32) -> Answer<Expr>
 fn index(cursor: &mut Cursor<'_>, line: u32, list: Found<Expr>, inner: u32) -> Answer<Expr>
     requires room { inner < u32.MAX }
     requires measured { list.depth ≡ nesting (plain_expr list.tree) }
-    ensures { IsTurn (index_turn inner (readers inner) line (plain_expr list.tree)) (inner + 1)
-        cursor.old cursor.new result }
+    ensures { IsIteration (index_iteration inner (readers inner) line (plain_expr list.tree))
+        (inner + 1) cursor.old cursor.new result }
 {
     if list.depth > inner {
         return Err(cursor.no_tree());
@@ -260,8 +260,8 @@ fn index(cursor: &mut Cursor<'_>, line: u32, list: Found<Expr>, inner: u32) -> A
 fn call(cursor: &mut Cursor<'_>, line: u32, callee: Found<Expr>, inner: u32) -> Answer<Expr>
     requires room { inner < u32.MAX }
     requires measured { callee.depth ≡ nesting (plain_expr callee.tree) }
-    ensures { IsTurn (call_turn inner (readers inner) line (plain_expr callee.tree)) (inner + 1)
-        cursor.old cursor.new result }
+    ensures { IsIteration (call_iteration inner (readers inner) line (plain_expr callee.tree))
+        (inner + 1) cursor.old cursor.new result }
 {
     let depth = callee_depth(&callee);
     if depth > inner {
@@ -352,7 +352,7 @@ fn function(cursor: &mut Cursor<'_>, inner: u32) -> Answer<Expr>
 
 /// Expressions separated by commas, and the mark that closes them.
 #[cycle(descent)]
-#[tactic(auto, using(js_cursor::proofs::Loops::elements_turn, js_tree::proofs::Rows::map_push, js_tree::proofs::Rows::deepest_push, crate::proofs::Using::next_element_none, crate::proofs::Using::elements_begin))]
+#[tactic(auto, using(js_cursor::proofs::Loops::elements_iteration, js_tree::proofs::Rows::map_push, js_tree::proofs::Rows::deepest_push, crate::proofs::Using::next_element_none, crate::proofs::Using::elements_begin))]
 fn elements(cursor: &mut Cursor<'_>, close: Sort, inner: u32) -> Answer<Vec<Expr>>
     ensures { IsRead (λ es. map plain_expr es.items) (λ es. deepest (exprs_of es))
         (elements_read inner (readers inner) close) inner 1 cursor.old cursor.new result }
@@ -401,7 +401,7 @@ fn field(cursor: &mut Cursor<'_>, inner: u32) -> Answer<Field>
 
 /// Fields and `}`, after the `{`.
 #[cycle(descent)]
-#[tactic(auto, using(js_cursor::proofs::Loops::fields_turn, js_tree::proofs::Rows::map_push_field, js_tree::proofs::Rows::deepest_push_field, crate::proofs::Using::next_field_none, crate::proofs::Using::fields_begin))]
+#[tactic(auto, using(js_cursor::proofs::Loops::fields_iteration, js_tree::proofs::Rows::map_push_field, js_tree::proofs::Rows::deepest_push_field, crate::proofs::Using::next_field_none, crate::proofs::Using::fields_begin))]
 fn fields(cursor: &mut Cursor<'_>, inner: u32) -> Answer<Vec<Field>>
     ensures { IsRead (λ fs. map plain_field fs.items) (λ fs. deepest_field (fields_of fs))
         (fields_read inner (readers inner)) inner 1 cursor.old cursor.new result }
@@ -452,7 +452,7 @@ fn declarator(cursor: &mut Cursor<'_>, kind: DeclareKind, inner: u32) -> Answer<
 
 /// Declarators separated by commas.
 #[cycle(descent)]
-#[tactic(auto, using(js_cursor::proofs::Loops::declarators_turn, js_tree::proofs::Rows::map_push_declarator, js_tree::proofs::Rows::deepest_push_declarator, js_grammar::proofs::Complete::next_declarator_stop))]
+#[tactic(auto, using(js_cursor::proofs::Loops::declarators_iteration, js_tree::proofs::Rows::map_push_declarator, js_tree::proofs::Rows::deepest_push_declarator, js_grammar::proofs::Complete::next_declarator_stop))]
 fn declarators(cursor: &mut Cursor<'_>, kind: DeclareKind, inner: u32) -> Answer<Vec<Declarator>>
     ensures { IsRead (λ ds. map plain_declarator ds.items)
         (λ ds. deepest_declarator (declarators_of ds))
@@ -472,7 +472,7 @@ fn declarators(cursor: &mut Cursor<'_>, kind: DeclareKind, inner: u32) -> Answer
 
 /// Statements up to `}` or the end of the text.
 #[cycle(descent)]
-#[tactic(auto, using(js_cursor::proofs::Loops::statements_turn, js_tree::proofs::Rows::map_push_stmt, js_tree::proofs::Rows::deepest_push_stmt))]
+#[tactic(auto, using(js_cursor::proofs::Loops::statements_iteration, js_tree::proofs::Rows::map_push_stmt, js_tree::proofs::Rows::deepest_push_stmt))]
 fn statements(cursor: &mut Cursor<'_>, inner: u32) -> Answer<Vec<Stmt>>
     ensures { IsRead (λ ss. map plain_stmt ss.items) (λ ss. deepest_stmt (stmts_of ss))
         (statements_read inner (readers inner)) inner 0 cursor.old cursor.new result }

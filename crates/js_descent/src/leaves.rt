@@ -3,16 +3,16 @@ ghost use Rattle.std.specs.Prelude.{◌≡◌, ◌<◌, ◌+◌};
 ghost use Rattle.js_tree.specs.Views.{plain_expr};
 ghost use Rattle.js_tree.specs.Nesting.{nesting};
 ghost use Rattle.js_grammar.specs.Reading.{number_at, text_at, use_at, postfix_at, break_at, continue_at};
-ghost use Rattle.js_grammar.specs.Expressions.{member_turn};
+ghost use Rattle.js_grammar.specs.Expressions.{member_iteration};
 ghost use Rattle.js_grammar.specs.Reader.{readers};
 ghost use Rattle.js_cursor.specs.Passed.{at_first};
-ghost use Rattle.js_cursor.specs.Read.{IsExpr, IsStmt, IsTurn};
+ghost use Rattle.js_cursor.specs.Read.{IsExpr, IsStmt, IsIteration};
 
 use js_cursor::{Answer, Cursor, Found, expr_at, object_depth, stmt_at};
 use js_tree::{Ending, Expr, Fix, Form, Stmt, StmtForm};
 
 /// A number.
-pub fn number(cursor: &mut Cursor<'_>) -> Answer<Expr>
+pub(crate) fn number(cursor: &mut Cursor<'_>) -> Answer<Expr>
     ensures { IsExpr (at_first number_at) 1 cursor.old cursor.new result }
 {
     let line = cursor.line();
@@ -21,7 +21,7 @@ pub fn number(cursor: &mut Cursor<'_>) -> Answer<Expr>
 }
 
 /// The content of a text literal.
-pub fn text(cursor: &mut Cursor<'_>) -> Answer<Expr>
+pub(crate) fn text(cursor: &mut Cursor<'_>) -> Answer<Expr>
     ensures { IsExpr (at_first text_at) 1 cursor.old cursor.new result }
 {
     let line = cursor.line();
@@ -30,7 +30,7 @@ pub fn text(cursor: &mut Cursor<'_>) -> Answer<Expr>
 }
 
 /// A name that is used.
-pub fn used(cursor: &mut Cursor<'_>) -> Answer<Expr>
+pub(crate) fn used(cursor: &mut Cursor<'_>) -> Answer<Expr>
     ensures { IsExpr (at_first use_at) 1 cursor.old cursor.new result }
 {
     let line = cursor.line();
@@ -40,7 +40,7 @@ pub fn used(cursor: &mut Cursor<'_>) -> Answer<Expr>
 
 /// `++` or `--` after a name.
 #[tactic(auto, using(js_cursor::proofs::Using::held_none))]
-pub fn postfix(cursor: &mut Cursor<'_>) -> Answer<Expr>
+pub(crate) fn postfix(cursor: &mut Cursor<'_>) -> Answer<Expr>
     ensures { IsExpr (at_first postfix_at) 1 cursor.old cursor.new result }
 {
     let line = cursor.line();
@@ -50,7 +50,7 @@ pub fn postfix(cursor: &mut Cursor<'_>) -> Answer<Expr>
 }
 
 /// A `break`.
-pub fn break_of(cursor: &mut Cursor<'_>) -> Answer<Stmt>
+pub(crate) fn break_of(cursor: &mut Cursor<'_>) -> Answer<Stmt>
     ensures { IsStmt (at_first break_at) 1 cursor.old cursor.new result }
 {
     let spot = cursor.bump()?;
@@ -59,7 +59,7 @@ pub fn break_of(cursor: &mut Cursor<'_>) -> Answer<Stmt>
 }
 
 /// A `continue`.
-pub fn continue_of(cursor: &mut Cursor<'_>) -> Answer<Stmt>
+pub(crate) fn continue_of(cursor: &mut Cursor<'_>) -> Answer<Stmt>
     ensures { IsStmt (at_first continue_at) 1 cursor.old cursor.new result }
 {
     let spot = cursor.bump()?;
@@ -69,11 +69,16 @@ pub fn continue_of(cursor: &mut Cursor<'_>) -> Answer<Stmt>
 
 /// A member, after its dot.
 #[tactic(auto, using(js_cursor::proofs::Using::held_none))]
-pub fn member(cursor: &mut Cursor<'_>, line: u32, object: Found<Expr>, inner: u32) -> Answer<Expr>
+pub(crate) fn member(
+    cursor: &mut Cursor<'_>,
+    line: u32,
+    object: Found<Expr>,
+    inner: u32,
+) -> Answer<Expr>
     requires room { inner < u32.MAX }
     requires measured { object.depth ≡ nesting (plain_expr object.tree) }
-    ensures { IsTurn (member_turn inner (readers inner) line (plain_expr object.tree)) (inner + 1)
-        cursor.old cursor.new result }
+    ensures { IsIteration (member_iteration inner (readers inner) line (plain_expr object.tree))
+        (inner + 1) cursor.old cursor.new result }
 {
     let depth = object_depth(&object);
     if depth > inner {
