@@ -1,5 +1,5 @@
 //! The numbers of b-threads that may have changed.
-ghost use Rattle.std.specs.Prelude.{◌≡◌, ℕ, [], true, OnOk};
+ghost use Rattle.std.specs.Prelude.{◌≡◌, ℕ, [], true, OnOk, OnErr};
 ghost use Rattle.bp_roll.specs.Rolls.{is_in};
 
 use bp_log::Memory;
@@ -8,11 +8,13 @@ use std::marker::Model;
 
 /// The numbers that were noted. Contracts see the list.
 ///
-/// Numbers that come again in the order in which they came stand there once.
+/// Numbers that come a second time in the same order are not written again; at a third time they
+/// are.
 #[derive(Drop)]
 pub struct Changes {
     numbers: Vec<u32>,
-    /// The place of the number that is next to come again. Only how long the list gets rests on it.
+    /// The numbers before this place have come a second time. Only how long the list gets rests on
+    /// it.
     next: usize,
 }
 
@@ -49,10 +51,12 @@ impl Changes {
         self.numbers.as_slice()
     }
 
-    /// Notes the number. Its only error is out of memory. What was noted stays noted.
+    /// Notes the number; what was noted stays noted. Its only error is out of memory, and then
+    /// nothing changes.
     pub fn note(&mut self, number: u32) -> Result<(), Memory>
         ensures noted { OnOk result (is_in number self.new ≡ true) }
         ensures others { (n : ℕ) → is_in n self.old ≡ true → is_in n self.new ≡ true }
+        ensures failed { OnErr result (self.new ≡ self.old) }
     {
         if self.is_next(number) {
             self.next = self.next.saturating_add(1);
@@ -62,7 +66,7 @@ impl Changes {
         Ok(())
     }
 
-    /// Whether this number is the next to come again.
+    /// Whether this is the number that comes a second time next.
     fn is_next(&self, number: u32) -> bool
         ensures { result ≡ true → is_in number self.now ≡ true }
     {

@@ -41,7 +41,8 @@ fn put(list: &mut Vec<u32>, number: u32) -> Result<(), Memory>
     Ok(())
 }
 
-/// The number is taken out of the list, if it is found.
+/// Takes the number out of the list, where the search finds it. All other numbers stay. Only time
+/// and memory rest on its being gone.
 fn take(list: &mut Vec<u32>, number: u32)
     ensures others { (n : ℕ) → nat_eq n number ≡ false → is_in n list.old.items ≡ true →
         is_in n list.new.items ≡ true }
@@ -67,7 +68,7 @@ pub(crate) fn enter(alloc: Global, lists: &mut Lists, key: u64, number: u32) -> 
     Ok(())
 }
 
-/// The number is taken out of the list of the key.
+/// Takes the number out of the list of the key, as `take` does. All other numbers stay listed.
 fn take_at(lists: &mut Lists, key: u64, number: u32)
     ensures others { (k n : ℕ) → nat_eq n number ≡ false → is_listed lists.old.entries k n ≡ true →
         is_listed lists.new.entries k n ≡ true }
@@ -87,7 +88,7 @@ fn is_spent(lists: &Lists, key: u64) -> bool
     }
 }
 
-/// The key gives up its list, if nobody is in it.
+/// The key gives up its list, if nobody is in it. All numbers stay listed.
 fn tidy(lists: &mut Lists, key: u64)
     ensures { (k n : ℕ) → is_listed lists.old.entries k n ≡ true →
         is_listed lists.new.entries k n ≡ true }
@@ -97,7 +98,8 @@ fn tidy(lists: &mut Lists, key: u64)
     }
 }
 
-/// The number is no longer listed at the key.
+/// Takes the number out of the list of the key, as `take` does, and the list itself away, if nobody
+/// is left in it. All other numbers stay listed.
 pub(crate) fn leave(lists: &mut Lists, key: u64, number: u32)
     ensures { (k n : ℕ) → nat_eq n number ≡ false → is_listed lists.old.entries k n ≡ true →
         is_listed lists.new.entries k n ≡ true }

@@ -14,7 +14,8 @@ type Kept = IndexMap<u32, Vec<u64>>;
 
 /// Which numbers are noted at which keys. Contracts see the numbers of each key.
 ///
-/// More may be noted than was asked for, once memory ran out; never less.
+/// Each number is noted at the keys that were stated of it last. It may also be noted at others:
+/// only time and memory rest on that.
 #[derive(Drop)]
 pub struct Roll {
     lists: Lists,
@@ -53,7 +54,7 @@ fn enter_all(alloc: Global, lists: &mut Lists, keys: &[u64], number: u32) -> Res
     Ok(())
 }
 
-/// The number is no longer listed at these keys.
+/// Takes the number out of the lists of these keys, as `leave` does. All other numbers stay listed.
 fn leave_all(lists: &mut Lists, keys: &[u64], number: u32)
     ensures { (k n : ℕ) → nat_eq n number ≡ false → is_listed lists.old.entries k n ≡ true →
         is_listed lists.new.entries k n ≡ true }
@@ -63,7 +64,8 @@ fn leave_all(lists: &mut Lists, keys: &[u64], number: u32)
     }
 }
 
-/// The number is no longer listed at its keys of before.
+/// Takes the number out of the lists of its keys of before, if it had any. All other numbers stay
+/// listed.
 fn leave_before(lists: &mut Lists, before: Option<Vec<u64>>, number: u32)
     ensures { (k n : ℕ) → nat_eq n number ≡ false → is_listed lists.old.entries k n ≡ true →
         is_listed lists.new.entries k n ≡ true }
@@ -73,7 +75,8 @@ fn leave_before(lists: &mut Lists, before: Option<Vec<u64>>, number: u32)
     }
 }
 
-/// The number is no longer listed at the keys that are kept of it.
+/// No keys are kept of the number any more, and it is taken out of the lists of those that were.
+/// All other numbers stay listed.
 fn give_up(lists: &mut Lists, kept: &mut Kept, number: u32)
     requires { AreListed lists.old.entries kept.old.entries }
     ensures listed { AreListed lists.new.entries kept.new.entries }
@@ -126,8 +129,9 @@ impl Roll {
         }
     }
 
-    /// The number is noted at these keys from now on, and no longer at its keys of before. All
-    /// other numbers stay where they are noted.
+    /// The number is noted at these keys from now on, and all other numbers stay where they are
+    /// noted. It is also taken away from its keys of before; only time and memory rest on that, so
+    /// no clause says it.
     ///
     /// # Errors
     ///

@@ -12,9 +12,9 @@ use Rattle.js_program.specs.PlainProgram.{PlainNodeForm, PlainNode, parts_of}
 use Rattle.js_meaning.specs.State.{Ground, Setting, State, Effect, normal, broke, continued, returned, Outcome, went, broken, violated, spent, stopped, effects_of, effects_since}
 use Rattle.js_meaning.specs.Bodies.{evaluation}
 use Rattle.js_meaning.specs.Forms.{asks}
-use Rattle.js_meaning.specs.Meaning.{eval, turns_of, allowed}
+use Rattle.js_meaning.specs.Meaning.{eval, iterations_of, allowed}
 use Rattle.js_meaning.proofs.Walk.{bind, either, leaves_walk, gives_walk, slot_walk, writes_walk, sequence_walk, in_order_walk, for_each_from_walk, combines_walk, declaration_walk, each_walk, each_of_walk, perhaps_walk}
-use Rattle.js_meaning.proofs.Following.{Sure, sure_ways, turns_sure, eval_sure, left_follows}
+use Rattle.js_meaning.proofs.Following.{Sure, sure_ways, iterations_sure, eval_sure, left_follows}
 use Rattle.js_frames.specs.declared.frame.Part.{Part}
 use Rattle.js_frames.specs.declared.frame.Part.TheVariants.{First, Second, Further, Or, And, Choice, When, Assigned, AssignedWith, Declared, Dropped, Returned, Statements, Started, Tested, Between, Listed, Walked}
 use Rattle.js_frames.specs.declared.frame.Iteration.{Iteration}
@@ -44,9 +44,9 @@ module _ (g : Setting) where
   eval_goes : (n : ℕ) → Goes (eval g n)
   eval_goes n = eval_sure g n
 
-  loop_goes : (test : Option ℕ) (body : ℕ) (next : Option ℕ) → Goes (turns_of g test body next)
-  unfolding turns_of
-  loop_goes test body next = record { at = λ s. (turns_sure g (eval g) eval_goes (allowed g.budget s) test body next).at s }
+  loop_goes : (test : Option ℕ) (body : ℕ) (next : Option ℕ) → Goes (iterations_of g test body next)
+  unfolding iterations_of
+  loop_goes test body next = record { at = λ s. (iterations_sure g (eval g) eval_goes (allowed g.budget s) test body next).at s }
 
   parts_go : (o : Option PlainNode) (done : List PlainValue) → Goes (parts_from g o done)
   parts_go None done = (sure_ways g).spending
@@ -80,14 +80,14 @@ module _ (g : Setting) where
   rest_goes (Started t) x = loop_goes t.test t.body t.next
   rest_goes (Tested t) x =
       either g (Sure g) (sure_ways g) (is_truthy x)
-      ((sure_ways g).turning _ _ _ _ (eval_goes t.body) (bind g (Sure g) (sure_ways g) _ _ (perhaps_walk g (Sure g) (sure_ways g) (eval g) (eval g) eval_goes t.next) (λ _. loop_goes t.test t.body t.next)))
+      ((sure_ways g).iterating _ _ _ _ (eval_goes t.body) (bind g (Sure g) (sure_ways g) _ _ (perhaps_walk g (Sure g) (sure_ways g) (eval g) (eval g) eval_goes t.next) (λ _. loop_goes t.test t.body t.next)))
       (leaves_walk g (Sure g) (sure_ways g))
   rest_goes (Between t) x = loop_goes t.test t.body t.next
   rest_goes (Listed k body line) x = each_of_walk g (Sure g) (sure_ways g) (eval g) (eval g) eval_goes line k body x
   rest_goes (Walked w) x =
       for_each_from_walk g (Sure g) (sure_ways g) (eval g) (eval g) eval_goes w.line (v.function w.code w.captured) (v.list w.items) w.index (drop w.index (values_in w.items))
 
-  again_goes : (turn : Iteration) → Goes (again g turn)
+  again_goes : (iteration : Iteration) → Goes (again g iteration)
   unfolding again
   again_goes (OfLoop t) = bind g (Sure g) (sure_ways g) _ _ (perhaps_walk g (Sure g) (sure_ways g) (eval g) (eval g) eval_goes t.next) (λ _. loop_goes t.test t.body t.next)
   again_goes (OfItems k body items place) = each_walk g (Sure g) (sure_ways g) (eval g) (eval g) eval_goes k body (drop place (values_in items))
@@ -100,25 +100,25 @@ module _ (g : Setting) where
   resume_behind : (es : List Effect) (f : Frame) (o : Outcome) → Behind es o → Behind es (resume g f o)
   unfolding resume
   resume_behind es (Waiting part) (went (normal x) s) b = goes_behind es (rest g part x) (rest_goes part x) s b
-  resume_behind es (Iterating turn) (went (normal x) s) b = goes_behind es (again g turn) (again_goes turn) s b
-  resume_behind es (Iterating turn) (went continued s) b = goes_behind es (again g turn) (again_goes turn) s b
+  resume_behind es (Iterating iteration) (went (normal x) s) b = goes_behind es (again g iteration) (again_goes iteration) s b
+  resume_behind es (Iterating iteration) (went continued s) b = goes_behind es (again g iteration) (again_goes iteration) s b
   resume_behind es (Waiting part) (went broke s) b = b
   resume_behind es (Waiting part) (went continued s) b = b
   resume_behind es (Waiting part) (went (returned x) s) b = b
-  resume_behind es (Iterating turn) (went broke s) b = b
-  resume_behind es (Iterating turn) (went (returned x) s) b = b
+  resume_behind es (Iterating iteration) (went broke s) b = b
+  resume_behind es (Iterating iteration) (went (returned x) s) b = b
   resume_behind es (Called slots active) (went c s) b = b
   resume_behind es (Waiting part) (broken f line e) b = b
-  resume_behind es (Iterating turn) (broken f line e) b = b
+  resume_behind es (Iterating iteration) (broken f line e) b = b
   resume_behind es (Called slots active) (broken f line e) b = b
   resume_behind es (Waiting part) (violated text e) b = b
-  resume_behind es (Iterating turn) (violated text e) b = b
+  resume_behind es (Iterating iteration) (violated text e) b = b
   resume_behind es (Called slots active) (violated text e) b = b
   resume_behind es (Waiting part) (spent e) b = b
-  resume_behind es (Iterating turn) (spent e) b = b
+  resume_behind es (Iterating iteration) (spent e) b = b
   resume_behind es (Called slots active) (spent e) b = b
   resume_behind es (Waiting part) (stopped x y line e) b = b
-  resume_behind es (Iterating turn) (stopped x y line e) b = b
+  resume_behind es (Iterating iteration) (stopped x y line e) b = b
   resume_behind es (Called slots active) (stopped x y line e) b = b
 
   plug_behind : (es : List Effect) (fs : List Frame) (o : Outcome) → Behind es o → Behind es (plug g fs o)

@@ -1,4 +1,5 @@
 pub mod Shared
+pub mod Parts
 pub mod Views
 pub mod Kept
 pub mod Pauses

@@ -236,8 +236,8 @@ impl Job {
         }
     }
 
-    /// The event stands at the end of the replies, and the body goes on with it. Takes memory for
-    /// the event alone; its only error is out of memory, and then nothing has changed.
+    /// The event stands at the end of the replies, and the body goes on with it. Its only error is
+    /// out of memory, and then nothing has changed.
     pub fn give(&mut self, event: &Event) -> Result<(), Memory>
         requires stopped { is_stopped (plain_job self.old).outcome ≡ true }
         requires taken { (plain_job self.old).effects ≡ [] }

@@ -9,7 +9,7 @@ use js_frames::{Effect, Effects};
 use js_value::{Value, copy};
 
 /// The handler becomes the one that was set last among these effects, if one was.
-pub fn set_handler(handler: &mut Option<Value>, effects: &[Effect]) -> Result<(), Memory>
+pub(crate) fn set_handler(handler: &mut Option<Value>, effects: &[Effect]) -> Result<(), Memory>
     ensures { OnOk result (option_map plain_value handler.new
         ≡ fold handler_after (option_map plain_value handler.old) (map plain_effect effects.now)) }
 {
@@ -22,7 +22,7 @@ pub fn set_handler(handler: &mut Option<Value>, effects: &[Effect]) -> Result<()
 }
 
 /// Moves effects after those that are there.
-pub fn append(effects: &mut Effects, fresh: Effects) -> Result<(), Memory>
+pub(crate) fn append(effects: &mut Effects, fresh: Effects) -> Result<(), Memory>
     ensures { OnOk result
         (plain_effects effects.new ≡ plain_effects effects.old ++ plain_effects fresh) }
 {

@@ -9,6 +9,7 @@ mod keeping;
 pub mod laws;
 mod origin;
 mod outcome;
+mod parts;
 mod pausing;
 mod reading;
 mod requests;

@@ -3,7 +3,7 @@ use js_program::Mode;
 use js_value::{Items, Value};
 
 /// The body that a job runs.
-pub enum Origin {
+pub(crate) enum Origin {
     /// The top level of the program.
     Top,
     /// A call of a function in a mode.

@@ -27,7 +27,11 @@ fn outcome_at_sync(alloc: Global, machine: &Machine) -> Result<Outcome, Memory>
 }
 
 /// The outcome that a pause of this machine is: none where it can go on.
-pub fn outcome_at(alloc: Global, machine: &Machine, pause: Pause) -> Result<Option<Outcome>, Memory>
+pub(crate) fn outcome_at(
+    alloc: Global,
+    machine: &Machine,
+    pause: Pause,
+) -> Result<Option<Outcome>, Memory>
     requires { pause ≡ Pause.AtSync → IsSome (asked_by machine.now) }
     ensures outcome { IfOk result (λ o. option_map plain_outcome o
         ≡ outcome_of_pause pause (asked_by machine.now) (line_asked machine.now)) }

@@ -1,18 +1,16 @@
 //! A statement, read from the two values that `bp.sync` is given.
 ghost use Rattle.std.specs.Prelude.{◌≡◌, unwrap_or, option_map};
-ghost use Rattle.std.specs.List.{list_all};
-ghost use Rattle.js_value.specs.Lists.{fields_in};
-ghost use Rattle.js_value.specs.Parts.{field_at};
 ghost use Rattle.js_value.specs.Value.{undefined};
 ghost use Rattle.js_value.specs.Views.{plain_value};
-ghost use Rattle.bp_meaning.specs.Statements.{statement_of as statement_that_is, statement_in as statement_in_fields, requested as requested_by, set_stated as set_that_is, priority_stated as priority_that_is, events_in, is_key as is_stated_key};
+ghost use Rattle.bp_meaning.specs.Statements.{statement_of as statement_that_is, requested as requested_by, set_stated as set_that_is, priority_stated as priority_that_is, events_in};
 ghost use Rattle.bp_thread.specs.Views.{plain_statement, stated_set, Reads};
 
 use crate::events::Events;
+use crate::parts::parts_of;
 use crate::requests::Requests;
 use crate::statement::Statement;
-use js_data::{Memory, Text, Whole};
-use js_value::{EventSet, Items, Pairs, Value, set_of_value};
+use js_data::{Memory, Whole};
+use js_value::{EventSet, Items, Value, set_of_value};
 use std::alloc::Global;
 use thiserror::Error;
 
@@ -23,7 +21,7 @@ pub enum StatementFault {
     #[error("the values are no statement")]
     Shape,
     /// Memory ran out.
-    #[error("memory was wanting")]
+    #[error("out of memory")]
     Memory,
 }
 
@@ -36,24 +34,6 @@ impl From<Memory> for StatementFault {
     fn from(_error: Memory) -> StatementFault {
         StatementFault::Memory
     }
-}
-
-fn is_key(key: &Text) -> bool
-    ensures { result ≡ is_stated_key key.now }
-{
-    let key = key.as_str();
-    key == "request" || key == "waitFor" || key == "block" || key == "interrupt"
-}
-
-fn have_keys(fields: &Pairs) -> bool
-    ensures { result ≡ list_all (λ f. is_stated_key f.0) (fields_in fields.now) }
-{
-    for field in fields.as_slice() {
-        if !is_key(&field.0) {
-            return false;
-        }
-    }
-    true
 }
 
 /// The events of a list of events.
@@ -112,38 +92,7 @@ fn priority_stated(value: &Value) -> Result<Whole, StatementFault>
     }
 }
 
-/// The value under the key, if there is one. A statement has four keys at most, so a look at each
-/// costs less than a search by halves.
-fn value_at<'a>(fields: &'a Pairs, key: &str) -> Option<&'a Value>
-    ensures { option_map (λ v. plain_value v.now) result ≡ field_at fields.now key.now }
-{
-    for field in fields.as_slice() {
-        if field.0.as_str() == key {
-            return Some(&field.1);
-        }
-    }
-    None
-}
-
-fn statement_in(
-    alloc: Global,
-    fields: &Pairs,
-    priority: &Value,
-) -> Result<Statement, StatementFault>
-    ensures { Reads plain_statement
-        (statement_in_fields fields.now (plain_value priority.now)) result }
-{
-    Ok(Statement {
-        request: requested(alloc, value_at(fields, "request"))?,
-        wait_for: set_stated(alloc, value_at(fields, "waitFor"))?,
-        block: set_stated(alloc, value_at(fields, "block"))?,
-        interrupt: set_stated(alloc, value_at(fields, "interrupt"))?,
-        priority: priority_stated(priority)?,
-    })
-}
-
-/// The statement that the two values are. Sets are shared, each requested event is copied once, and
-/// what is not stated takes no memory.
+/// The statement that the two values are.
 ///
 /// # Errors
 ///
@@ -156,13 +105,17 @@ pub fn statement_of(
     ensures { Reads plain_statement
         (statement_that_is (plain_value asked.now) (plain_value priority.now)) result }
 {
-    match asked {
-        Value::Fields(fields) => {
-            if !have_keys(fields) {
-                return Err(StatementFault::Shape);
-            }
-            statement_in(alloc, fields, priority)
-        }
-        _ => Err(StatementFault::Shape),
-    }
+    let Value::Fields(fields) = asked else {
+        return Err(StatementFault::Shape);
+    };
+    let Some(parts) = parts_of(fields) else {
+        return Err(StatementFault::Shape);
+    };
+    Ok(Statement {
+        request: requested(alloc, parts.request)?,
+        wait_for: set_stated(alloc, parts.wait_for)?,
+        block: set_stated(alloc, parts.block)?,
+        interrupt: set_stated(alloc, parts.interrupt)?,
+        priority: priority_stated(priority)?,
+    })
 }

@@ -10,7 +10,7 @@ use std::sync::Arc;
 /// The events that a statement requests, in order, which its copies share. Contracts see the list.
 #[derive(Drop)]
 pub struct Requests {
-    /// Nothing where none is requested.
+    /// `None` is no events, and so is an empty list.
     shared: Option<Arc<Events>>,
 }
 
