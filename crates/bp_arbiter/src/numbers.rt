@@ -9,7 +9,7 @@ use std::marker::Model;
 
 /// Numbers in order. Contracts see the list.
 #[derive(Drop)]
-pub struct Numbers {
+pub(crate) struct Numbers {
     items: Vec<u32>,
 }
 

@@ -24,7 +24,7 @@ use std::alloc::{AllocError, Global};
 
 /// All of an arbiter that a call changes. It lacks the invariant of `Arbiter`, so that a method may
 /// break that on the way.
-pub struct Run {
+pub(crate) struct Run {
     /// Where its b-threads stand.
     pub floor: Floor,
     /// The words of the random choice.

@@ -20,7 +20,7 @@ use Rattle.bp_run.proofs.Numbers.{reach_rising, live_rising, length-touch_all, e
 use Rattle.bp_select.specs.declared.answers.Reach.{Reach}
 use Rattle.bp_floor.specs.declared.board.Board.{Board}
 use Rattle.bp_code.specs.Code.{sealed_code_of as code_of}
-use Rattle.bp_floor.specs.inner.Seating.{seated}
+use Rattle.bp_floor.specs.inner.Seats.{seated}
 use Rattle.bp_floor.specs.inner.Boards.{stand_of, pair_of}
 use Rattle.bp_floor.specs.Forgetting.{forgotten, forget}
 use Rattle.bp_floor.specs.inner.Kept.{Running, IsKept, AreBelow, Rises, runs_in}

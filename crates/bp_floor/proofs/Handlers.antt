@@ -18,8 +18,8 @@ use Rattle.bp_thread.specs.Jobs.{plain_job, is_stopped}
 use Rattle.bp_floor.specs.declared.entry.Handler.{Handler}
 use Rattle.bp_code.specs.Code.{sealed_code_of as code_of}
 use Rattle.bp_floor.specs.inner.Entries.{handler_seen}
-use Rattle.bp_floor.specs.inner.Seating.{PlainSeat, seated, origin_in, replies_in, IsOwn, IsOwnIn, AreOwn}
-use Rattle.bp_floor.specs.inner.Seated.{job_at}
+use Rattle.bp_floor.specs.inner.Seats.{PlainSeat, seated, origin_in, replies_in, IsOwn, IsOwnIn, AreOwn}
+use Rattle.bp_floor.specs.inner.SeatViews.{job_at}
 use Rattle.bp_floor.specs.inner.Kept.{Running}
 use Rattle.bp_floor.specs.inner.Reached.{IsStanding, AreStanding, HasHandler, handler_at}
 use Rattle.bp_floor.proofs.Lists.{get_map}

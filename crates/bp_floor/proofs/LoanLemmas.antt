@@ -22,12 +22,12 @@ use Rattle.bp_floor.specs.declared.entry.Entry.{Entry as Code_entry}
 use Rattle.bp_floor.specs.declared.entry.Entry.TheVariants.{Top, Runs as Code_runs, Stops as Code_stops}
 use Rattle.bp_floor.specs.inner.Entries.{handler_seen, entry_seen}
 use Rattle.bp_code.specs.Code.{sealed_code_of as code_of}
-use Rattle.bp_floor.specs.inner.Seating.{PlainSeat, seated, origin_in, replies_in, outcome_in, is_waiting, is_ready, where_from, stop_at, statement_at, stated_from, IsOwn, IsOwnIn, AreOwn}
-use Rattle.bp_floor.specs.inner.Seated.{job_at}
+use Rattle.bp_floor.specs.inner.Seats.{PlainSeat, seated, origin_in, replies_in, outcome_in, is_waiting, is_ready, where_from, stop_at, statement_at, stated_from, IsOwn, IsOwnIn, AreOwn}
+use Rattle.bp_floor.specs.inner.SeatViews.{job_at}
 use Rattle.bp_floor.specs.inner.Kept.{Running, IsBelow, AreBelow, AreFrom, Rises, runs_in}
 use Rattle.bp_floor.specs.Loans.{JobFor, IsLent, AreLent, fill, filled, standing}
 use Rattle.bp_floor.specs.Returns.{AreLater}
-use Rattle.bp_floor.specs.inner.Lent.{IsStarted, IsGroundOf, Lends, CanLend, AreOut}
+use Rattle.bp_floor.specs.inner.TakenOut.{IsStarted, IsGroundOf, Lends, CanLend, AreOut}
 use Rattle.bp_floor.proofs.Lists.{change_map, change_none, change_twice, found, get_map}
 use Rattle.bp_floor.proofs.Places.{where_first0, first_is0, where_rises, where_like, stated_like, own_changed0, own_at0}
 use Rattle.bp_floor.proofs.ReturnLemmas.{later_alone, nothing_later, filled_none}

@@ -28,7 +28,7 @@ use Rattle.bp_floor.specs.inner.Desks.{PlainDesk, Fits}
 use Rattle.bp_thread.specs.declared.job.Job.{Job}
 use Rattle.bp_thread.specs.Jobs.{PlainJob, plain_job, IsOf, IsFresh}
 use Rattle.bp_floor.specs.declared.board.Board.{Board}
-use Rattle.bp_floor.specs.inner.Seating.{PlainSeat, seated, is_waiting, is_ready, where_from, stated_from, IsOwn, AreOwn}
+use Rattle.bp_floor.specs.inner.Seats.{PlainSeat, seated, is_waiting, is_ready, where_from, stated_from, IsOwn, AreOwn}
 use Rattle.bp_floor.specs.inner.Boards.{stand_of, pair_of, retired}
 use Rattle.bp_floor.specs.inner.Kept.{Running, IsOn, IsKept, IsBelow, AreBelow, AreFrom, runs_in}
 use Rattle.bp_floor.specs.Returns.{entry_in, IsMirrored, IsSameBut}

@@ -27,7 +27,7 @@ use Rattle.bp_floor.specs.inner.Desks.{Fits}
 use Rattle.bp_thread.specs.declared.job.Job.{Job}
 use Rattle.bp_thread.specs.Jobs.{PlainJob, plain_job, IsOf, StandsFor, IsFresh, is_stopped}
 use Rattle.bp_floor.specs.declared.board.Board.{Board}
-use Rattle.bp_floor.specs.inner.Seating.{PlainSeat, seated, origin_in, replies_in, outcome_in, is_waiting, is_ready, where_from, statement_at, stated_from, IsOwn, IsOwnIn, AreOwn, swept}
+use Rattle.bp_floor.specs.inner.Seats.{PlainSeat, seated, origin_in, replies_in, outcome_in, is_waiting, is_ready, where_from, statement_at, stated_from, IsOwn, IsOwnIn, AreOwn, swept}
 use Rattle.bp_floor.specs.inner.Boards.{stand_of, pair_of}
 use Rattle.bp_floor.specs.Forgetting.{forget, forgotten}
 use Rattle.bp_floor.specs.inner.Kept.{Running, IsKept, AreFrom, Rises, runs_in}

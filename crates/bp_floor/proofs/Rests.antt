@@ -17,7 +17,7 @@ use Rattle.bp_run.proofs.Numbers.{reach_each, reach_rising, live_rising}
 use Rattle.bp_thread.specs.declared.job.Job.{Job}
 use Rattle.bp_thread.specs.Jobs.{plain_job, is_stopped}
 use Rattle.bp_code.specs.Code.{sealed_code_of as code_of}
-use Rattle.bp_floor.specs.inner.Seating.{PlainSeat, seated, origin_in, replies_in, outcome_in, is_waiting, where_from, stop_at, statement_at, stated_from, IsOwn, IsOwnIn, AreOwn}
+use Rattle.bp_floor.specs.inner.Seats.{PlainSeat, seated, origin_in, replies_in, outcome_in, is_waiting, where_from, stop_at, statement_at, stated_from, IsOwn, IsOwnIn, AreOwn}
 use Rattle.bp_floor.specs.inner.Kept.{Running, AreFrom, Rises}
 use Rattle.bp_floor.specs.inner.Reached.{IsStanding, AreStanding}
 use Rattle.bp_floor.proofs.Places.{own_at0, none_step, from_lower}

@@ -17,13 +17,13 @@ use Rattle.bp_floor.specs.declared.board.Board.{Board}
 use Rattle.bp_floor.specs.declared.phase.Phase.{Phase}
 use Rattle.bp_floor.specs.declared.phase.Phase.TheVariants.{Ready, Lent}
 use Rattle.bp_code.specs.Code.{sealed_code_of as code_of}
-use Rattle.bp_floor.specs.inner.Seating.{PlainSeat, seated}
+use Rattle.bp_floor.specs.inner.Seats.{PlainSeat, seated}
 use Rattle.bp_floor.specs.inner.Boards.{stand_of, pair_of}
 use Rattle.bp_floor.specs.Forgetting.{forgotten, AreGoing, forget}
 use Rattle.bp_floor.specs.inner.Kept.{Running, IsKept, IsOn, AreBelow, Rises}
 use Rattle.bp_floor.specs.Loans.{AreDone, filled, filled_pair, standing}
 use Rattle.bp_floor.specs.Returns.{AreLater, IsBack, ground_at}
-use Rattle.bp_floor.specs.inner.Lent.{CanLend, AreOut, IsGroundOf}
+use Rattle.bp_floor.specs.inner.TakenOut.{CanLend, AreOut, IsGroundOf}
 use Rattle.js_program.specs.PlainProgram.{PlainProgram}
 use Rattle.bp_floor.specs.Floors.{PlainFloor, AreBack, IsSound, StandsFor, StandsWith, phase_at, phase_of, code_on}
 use Rattle.bp_floor.proofs.Unended.{seats_going, filled_going, turn_of_standing}

@@ -19,7 +19,7 @@ use Rattle.bp_floor.specs.declared.board.Board.{Board}
 use Rattle.bp_floor.specs.declared.phase.Phase.{Phase}
 use Rattle.bp_floor.specs.declared.phase.Phase.TheVariants.{Ready, Rest}
 use Rattle.bp_code.specs.Code.{sealed_code_of as code_of}
-use Rattle.bp_floor.specs.inner.Seating.{PlainSeat, seated, stated_from, AreOwn}
+use Rattle.bp_floor.specs.inner.Seats.{PlainSeat, seated, stated_from, AreOwn}
 use Rattle.bp_floor.specs.inner.Boards.{stand_of, pair_of}
 use Rattle.bp_floor.specs.inner.Kept.{Running, AreBelow, Rises, runs_in}
 use Rattle.bp_floor.specs.Returns.{RunsAlone, ground_at}

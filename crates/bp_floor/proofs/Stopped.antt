@@ -8,9 +8,9 @@ use Rattle.bp_thread.specs.declared.job.Job.{Job}
 use Rattle.bp_thread.specs.Jobs.{plain_job, stop_line}
 use Rattle.bp_code.specs.Code.{ground_for}
 use Rattle.bp_code.specs.Code.{sealed_code_of as code_of}
-use Rattle.bp_floor.specs.inner.Seating.{PlainSeat, seated, origin_in, replies_in, is_waiting, where_from, IsOwn, AreOwn}
-use Rattle.bp_floor.specs.inner.Seated.{job_at}
-use Rattle.bp_floor.specs.inner.Stops.{stop_with, stop_in}
+use Rattle.bp_floor.specs.inner.Seats.{PlainSeat, seated, origin_in, replies_in, is_waiting, where_from, IsOwn, AreOwn}
+use Rattle.bp_floor.specs.inner.SeatViews.{job_at}
+use Rattle.bp_floor.specs.Stops.{stop_with, stop_in}
 use Rattle.bp_floor.specs.inner.Kept.{Running}
 use Rattle.bp_floor.proofs.Lists.{get_map}
 use Rattle.bp_floor.proofs.Places.{own_at0}

@@ -26,7 +26,7 @@ use Rattle.bp_select.specs.Answers.{AnswersReach, FaultAs, IsReach}
 use Rattle.bp_floor.specs.declared.board.Board.{Board}
 use Rattle.bp_floor.specs.declared.touching.Touch.{Touch}
 use Rattle.bp_code.specs.Code.{sealed_code_of as code_of}
-use Rattle.bp_floor.specs.inner.Seating.{seated, AreOwn}
+use Rattle.bp_floor.specs.inner.Seats.{seated, AreOwn}
 use Rattle.bp_floor.specs.inner.Boards.{stand_of, pair_of}
 use Rattle.bp_floor.specs.Forgetting.{forgotten}
 use Rattle.bp_floor.specs.inner.Kept.{Running, IsKept, Rises, runs_in}

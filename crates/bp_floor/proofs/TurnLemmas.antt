@@ -11,7 +11,7 @@ use Rattle.bp_run.specs.Settling.Entry.{The_top, Runs, Stops}
 use Rattle.bp_run.proofs.Before.{turn_apart}
 use Rattle.bp_floor.specs.declared.board.Board.{Board}
 use Rattle.bp_code.specs.Code.{sealed_code_of as code_of}
-use Rattle.bp_floor.specs.inner.Seating.{seated, swept}
+use Rattle.bp_floor.specs.inner.Seats.{seated, swept}
 use Rattle.bp_floor.specs.inner.Parts.{unstated_ran}
 use Rattle.bp_floor.specs.inner.Boards.{stand_of, pair_of}
 use Rattle.bp_floor.specs.Forgetting.{forgotten}

@@ -11,7 +11,7 @@ use Rattle.bp_run.specs.Bodies.{Code}
 use Rattle.js_value.specs.Value.{PlainSet}
 use Rattle.bp_thread.specs.declared.job.Job.{Job}
 use Rattle.bp_thread.specs.Jobs.{plain_job}
-use Rattle.bp_floor.specs.inner.Seating.{PlainSeat, seated, outcome_in, is_waiting, where_from}
+use Rattle.bp_floor.specs.inner.Seats.{PlainSeat, seated, outcome_in, is_waiting, where_from}
 use Rattle.bp_floor.specs.Forgetting.{forget, forgotten, AreGoing}
 use Rattle.bp_floor.specs.inner.Kept.{AreFrom, runs_in}
 use Rattle.bp_floor.specs.Loans.{fill, filled}

@@ -27,7 +27,7 @@ use Rattle.bp_floor.specs.declared.went.Went.{Went}
 use Rattle.bp_floor.specs.declared.went.Went.TheVariants.{Moved, Stopped}
 use Rattle.bp_code.specs.Code.{sealed_code_of as code_of}
 use Rattle.bp_floor.specs.inner.Desks.{Fits}
-use Rattle.bp_floor.specs.inner.Seating.{is_waiting, is_ready, where_from, stated_from, AreOwn}
+use Rattle.bp_floor.specs.inner.Seats.{is_waiting, is_ready, where_from, stated_from, AreOwn}
 use Rattle.bp_floor.specs.inner.Boards.{pair_of}
 use Rattle.bp_floor.specs.Forgetting.{forget, forgotten, AreGoing}
 use Rattle.bp_floor.specs.inner.Kept.{Running, AreBelow, Rises, runs_in}

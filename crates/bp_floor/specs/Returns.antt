@@ -16,7 +16,7 @@ use Rattle.bp_floor.specs.declared.board.Board.{Board}
 use Rattle.bp_code.specs.Code.{sealed_code_of as code_of}
 use Rattle.bp_floor.specs.inner.Desks.{Fits}
 use Rattle.bp_floor.specs.Forgetting.{forgotten}
-use Rattle.bp_floor.specs.inner.Seating.{seated, is_waiting, is_ready, where_from, stated_from, stop_at, AreOwn}
+use Rattle.bp_floor.specs.inner.Seats.{seated, is_waiting, is_ready, where_from, stated_from, stop_at, AreOwn}
 use Rattle.bp_floor.specs.inner.Parts.{unstated_part}
 use Rattle.bp_floor.specs.inner.Kept.{runs_in, AreBelow, Running}
 use Rattle.bp_floor.specs.Loans.{IsCarried, AreDone, filled, standing}

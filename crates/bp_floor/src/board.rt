@@ -9,7 +9,7 @@ use bp_thread::Statement;
 
 /// Where a run stands, and what is to be run there: all of a floor that a call changes. It lacks the
 /// invariant of `Floor`, so that a method may break that on the way.
-pub struct Board {
+pub(crate) struct Board {
     /// The b-threads.
     pub seats: Seats,
     /// What they state, and the events that wait.

@@ -28,7 +28,7 @@ use std::marker::Model;
 ///
 /// A desk fits a ground and a budget where its bench does and what is known is so under them.
 #[derive(Drop)]
-pub struct Desk {
+pub(crate) struct Desk {
     bench: Bench,
     queue: EventList,
     front: Front,

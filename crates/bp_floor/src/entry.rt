@@ -8,7 +8,7 @@ use std::alloc::Global;
 use std::marker::Model;
 
 /// A handler's function, and the event at which it runs, as its argument.
-pub struct Handler {
+pub(crate) struct Handler {
     /// The function.
     pub function: Value,
     /// The event.
@@ -25,7 +25,7 @@ impl Drop for Handler {
 }
 
 /// What is to be run.
-pub enum Entry {
+pub(crate) enum Entry {
     /// The top level.
     Top,
     /// The b-thread of this number.
@@ -45,7 +45,7 @@ impl Drop for Entry {
 }
 
 /// What is to be run, in order. Contracts see the list, as the definitions do.
-pub struct Wave {
+pub(crate) struct Wave {
     items: Vec<Entry>,
 }
 

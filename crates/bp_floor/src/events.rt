@@ -7,7 +7,7 @@ use std::alloc::{AllocFailed, Global};
 use std::marker::Model;
 
 /// Events, in the order in which they came. Contracts see the list.
-pub struct EventList {
+pub(crate) struct EventList {
     /// Those that wait, after those that were let go and not cleared away yet.
     items: Vec<Event>,
     /// How many were let go and not cleared away yet.

@@ -19,7 +19,7 @@ ghost use Rattle.bp_thread.specs.Views.{plain_statement};
 ghost use Rattle.bp_floor.specs.declared.phase.Phase.TheVariants as phase;
 ghost use Rattle.bp_floor.specs.declared.absorb.Absorb.TheVariants as absorb;
 ghost use Rattle.bp_floor.specs.inner.Boards.{pair_of};
-ghost use Rattle.bp_floor.specs.inner.Stops.{stop_in};
+ghost use Rattle.bp_floor.specs.Stops.{stop_in};
 ghost use Rattle.bp_floor.specs.Loans.{AreLent, filled_pair, standing};
 ghost use Rattle.bp_floor.specs.Floors.{StandsFor, StandsWith, AreBack, IsSealed, HadMemory, IsGivenUp, IsPhased, is_idle, CanGo, GoesAs, GoesFrom, ShowsOf, stop_of, told_verdict, code_on, has_on, live_on};
 ghost use Rattle.bp_floor.specs.inner.Absorbing.{IsRefused};

@@ -14,7 +14,7 @@ use std::marker::Model;
 /// on the bench and by those that are away: of b-threads that left the bench since and have not come
 /// back with equal ones. Contracts see both.
 #[derive(Drop)]
-pub struct Front {
+pub(crate) struct Front {
     blocked: usize,
     away: VecDeque<EventSet>,
 }

@@ -24,7 +24,7 @@ use std::alloc::{AllocError, Global};
 
 /// What an event leads to.
 #[derive(Drop)]
-pub enum Outlook {
+pub(crate) enum Outlook {
     /// It reaches these, and the run weighs so much afterwards.
     Reaches(Reach, u64),
     /// It stops the run.
@@ -58,7 +58,7 @@ fn touches_of(alloc: Global, reach: &Reach) -> Result<Vec<Touch>, Memory>
     let mut touches = Vec::new(alloc);
     let mut moved = 0;
     let mut interrupted = 0;
-    for turn in 0..reach.moved.len() + reach.interrupted.len() {
+    for _touch in 0..reach.moved.len() + reach.interrupted.len() {
         match first_touch(reach.moved.get(moved), reach.interrupted.get(interrupted)) {
             Some(Touch::Moves(number)) => {
                 touches.push(Touch::Moves(number))?;

@@ -5,7 +5,7 @@ ghost use Rattle.js_frames.specs.Places.{plain_ground};
 ghost use Rattle.bp_floor.specs.inner.Entries.{entry_seen};
 ghost use Rattle.bp_floor.specs.inner.Kept.{IsBelow, Running};
 ghost use Rattle.bp_floor.specs.inner.Entries.{handler_seen};
-ghost use Rattle.bp_floor.specs.inner.Lent.{CanLend, Lends, AreOut, IsStarted};
+ghost use Rattle.bp_floor.specs.inner.TakenOut.{CanLend, Lends, AreOut, IsStarted};
 
 use crate::{Entry, Handler, Seats, Wave};
 use bp_log::{Memory, Options};

@@ -11,7 +11,7 @@ use std::marker::Model;
 
 /// How a body came to a stop; what it states there stays with its job.
 #[derive(Drop)]
-pub enum Ending {
+pub(crate) enum Ending {
     /// At a synchronisation point.
     Stopped,
     /// At its end.
@@ -26,7 +26,7 @@ pub enum Ending {
 
 /// What a body did, and how it came to a stop.
 #[derive(Drop)]
-pub struct Part {
+pub(crate) struct Part {
     /// Its effects.
     pub effects: Effects,
     /// How it came to a stop.
@@ -35,7 +35,7 @@ pub struct Part {
 
 /// An entry, and what its body did.
 #[derive(Drop)]
-pub struct Ran {
+pub(crate) struct Ran {
     /// The entry.
     pub entry: Entry,
     /// What it did.
@@ -43,7 +43,7 @@ pub struct Ran {
 }
 
 /// Entries with what they did, in order. Contracts see the list, as the definitions do.
-pub struct Rans {
+pub(crate) struct Rans {
     items: Vec<Ran>,
 }
 

@@ -8,8 +8,8 @@ ghost use Rattle.bp_run.specs.Bodies.{Outcome as Reached};
 ghost use Rattle.bp_thread.specs.Jobs.{plain_job, stop_line};
 ghost use Rattle.bp_thread.specs.Views.{plain_statement};
 ghost use Rattle.bp_code.specs.Code.{ground_for};
-ghost use Rattle.bp_floor.specs.inner.Seating.{IsOwn};
-ghost use Rattle.bp_floor.specs.inner.Stops.{stop_with};
+ghost use Rattle.bp_floor.specs.inner.Seats.{IsOwn};
+ghost use Rattle.bp_floor.specs.Stops.{stop_with};
 
 use bp_thread::{Job, Outcome, Statement};
 

@@ -5,7 +5,7 @@ ghost use Rattle.js_value.specs.Views.{plain_value};
 ghost use Rattle.bp_run.specs.Story.{line_of_choice, handler_body, entry_of};
 ghost use Rattle.bp_thread.specs.Jobs.{plain_job};
 ghost use Rattle.bp_code.specs.Code.{sealed_code_of as code_of};
-ghost use Rattle.bp_floor.specs.inner.Seating.{seated, AreOwn};
+ghost use Rattle.bp_floor.specs.inner.Seats.{seated, AreOwn};
 ghost use Rattle.bp_floor.specs.inner.Entries.{handler_seen, entry_seen};
 ghost use Rattle.bp_floor.specs.inner.Boards.{stand_of, pair_of};
 ghost use Rattle.bp_floor.specs.inner.Kept.{Running, IsKept, runs_in};
@@ -24,7 +24,7 @@ use std::alloc::Global;
 
 /// What an event does to a b-thread, by its number.
 #[derive(Clone, Copy)]
-pub enum Touch {
+pub(crate) enum Touch {
     /// It goes on.
     Moves(u32),
     /// It is interrupted.

@@ -11,7 +11,7 @@ ghost use Rattle.bp_run.specs.Settling.{merged, turn, before};
 ghost use Rattle.bp_select.specs.Benches.{live_at};
 ghost use Rattle.bp_thread.specs.Views.{plain_statement};
 ghost use Rattle.bp_thread.specs.Jobs.{plain_job, is_ended};
-ghost use Rattle.bp_floor.specs.inner.Seating.{seated, stop_at};
+ghost use Rattle.bp_floor.specs.inner.Seats.{seated, stop_at};
 ghost use Rattle.bp_floor.specs.inner.Entries.{entry_seen};
 ghost use Rattle.bp_floor.specs.inner.Parts.{part_seen, ending_seen, unstated};
 ghost use Rattle.bp_code.specs.Code.{sealed_code_of as code_of};
@@ -260,9 +260,9 @@ impl Board {
         let wave = mem::replace(&mut self.wave, Wave::new(alloc));
         match self.turn_apart(alloc, ground, options, wave, jobs.into_iter()) {
             Ok(()) => self.join_lines(pending),
-            Err(wanting) => {
+            Err(error) => {
                 self.give_up(pending);
-                Err(wanting)
+                Err(error)
             }
         }
     }
@@ -276,9 +276,9 @@ impl Board {
         ensures verdict { OnErr result (self.new.verdict ≡ None) }
     {
         let fresh = mem::replace(&mut self.lines, pending);
-        if let Err(wanting) = self.lines.append(fresh) {
+        if let Err(error) = self.lines.append(fresh) {
             self.verdict = None;
-            return Err(wanting);
+            return Err(error);
         }
         Ok(())
     }

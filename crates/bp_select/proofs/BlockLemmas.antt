@@ -5,7 +5,7 @@ use Rattle.js_value.specs.Value as v
 use Rattle.js_value.specs.Value.{PlainSet}
 use Rattle.js_meaning.specs.State.{Ground}
 use Rattle.bp_meaning.specs.Membership.{member}
-use Rattle.bp_select.specs.Blocking.{is_empty}
+use Rattle.bp_select.specs.EmptySets.{is_empty}
 
 pub nothing_in : (base : Ground) (budget : ℕ) (s : PlainSet) (e : PlainEvent) → is_empty s ≡ true → member base budget s e ≡ Ok false
 nothing_in base budget v.nothing e h = refl

@@ -7,7 +7,7 @@ use Rattle.js_value.specs.Value.{PlainSet}
 use Rattle.js_meaning.specs.State.{Ground}
 use Rattle.bp_run.specs.Selecting.{Live, Has, Asked, by_number, both, blocked}
 use Rattle.bp_meaning.specs.Membership.{Membership, member}
-use Rattle.bp_select.specs.Blocking.{is_empty}
+use Rattle.bp_select.specs.EmptySets.{is_empty}
 use Rattle.bp_select.specs.Blocks.{AreOf, own_set, block_at}
 use Rattle.bp_select.specs.inner.BlockSets.{first_by, known_of}
 use Rattle.bp_known.specs.Known.{Sets, IsFree, IsBlockedBy, IsKnown}

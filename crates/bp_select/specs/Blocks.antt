@@ -2,7 +2,7 @@
 use Rattle.std.specs.Prelude.{◌≡◌, ℕ, nat_eq, List, [], ◌∷◌, Option, Some, None, if◌then◌else◌}
 use Rattle.js_value.specs.Value.{PlainSet}
 use Rattle.bp_run.specs.Selecting.{Live}
-use Rattle.bp_select.specs.Blocking.{is_empty}
+use Rattle.bp_select.specs.EmptySets.{is_empty}
 use Rattle.bp_known.specs.Known.{Sets}
 
 -- the block set of a b-thread, unless it plainly blocks nothing

@@ -1,7 +1,7 @@
 pub mod Draws
 pub mod Answers
 pub mod Places
-pub mod Blocking
+pub mod EmptySets
 pub mod Blocks
 pub mod Tallies
 pub mod Benches

@@ -34,14 +34,14 @@ count_at counts n = get_or counts n 0
 abbrev pub is_there : ℕ → List (Live PlainSet) → Bool
 is_there n ts = list_any (λ t. nat_eq t.number n) ts
 
--- whoever states the block sets: these of its requested events are free, all others are blocked, and
--- no set is at fault about one of them
+-- Under these block sets, whatever b-threads state them, these of its requested events are free, its
+-- other ones are blocked, and no set is at fault about any of them.
 pub record AreFreeOf (base : Ground) (budget : ℕ) (sets : Sets) (t : Live PlainSet)
     (free : List PlainEvent) : Type 0 where
   pub left : (ts : List (Live PlainSet)) → AreInOrder ts → AreOf ts sets →
       unblocked (member base budget) ts (candidates (t ∷ [])) ≡ Ok free
 
--- so many of its requested events are free
+-- this many of its requested events are free
 pub record HasFree (base : Ground) (budget : ℕ) (sets : Sets) (count : ℕ) (t : Live PlainSet)
     : Type 0 where
   pub free : List PlainEvent

@@ -11,7 +11,7 @@ pub enum SelectFault {
     #[error("a set of b-thread {0} can't tell")]
     Set(u32, SetFault),
     /// Memory ran out.
-    #[error("memory was wanting")]
+    #[error("out of memory")]
     Memory,
 }
 

@@ -13,7 +13,7 @@ ghost use Rattle.bp_select.specs.Blocks.{AreOf};
 ghost use Rattle.bp_select.specs.inner.BlockSets.{first_by, known_of};
 ghost use Rattle.bp_known.specs.Known.{Sets, IsKnown};
 ghost use Rattle.bp_select.specs.Places.{AreInOrder};
-ghost use Rattle.bp_select.specs.Blocking.{is_empty as is_plainly_empty};
+ghost use Rattle.bp_select.specs.EmptySets.{is_empty as is_plainly_empty};
 ghost use Rattle.bp_select.specs.inner.Tops.{HaveTops};
 ghost use Rattle.bp_select.specs.inner.Candidates.{events_in, tops_of};
 

@@ -49,7 +49,8 @@ pub struct Bench {
     blocks: Blocks,
     /// The numbers whose block sets may have changed since they were noted.
     changed: Vec<u32>,
-    /// Whom an event may touch. Only how fast they are found rests on it.
+    /// Whom an event may touch. Where b-threads are many, `reach` asks these alone; the invariant
+    /// says that no others need be asked.
     heeds: Heeds,
     /// How many free events each b-thread requests.
     tally: Tally,

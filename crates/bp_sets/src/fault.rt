@@ -15,7 +15,7 @@ pub enum SetFault {
     #[error("a predicate answers no truth value")]
     NotTruth(u32),
     /// Memory ran out.
-    #[error("memory was wanting")]
+    #[error("out of memory")]
     Memory,
 }
 

@@ -128,7 +128,7 @@ fn ask_plain(
 }
 
 /// What a predicate answers of the event, of which this is kept.
-pub fn ask(
+pub(crate) fn ask(
     alloc: Global,
     ground: &Ground,
     code: u32,

@@ -4,7 +4,7 @@ use Rattle.js_meaning.specs.Bodies.{Origin}
 use Rattle.bp_run.specs.Configuration.{Stand}
 use Rattle.bp_run.specs.Settling.{Pair, ended}
 use Rattle.bp_floor.specs.declared.board.Board.{Board}
-use Rattle.bp_floor.specs.inner.Seating.{seated}
+use Rattle.bp_floor.specs.inner.Seats.{seated}
 
 abbrev pub stand_of : Board → Stand Origin
 stand_of b =

@@ -12,7 +12,7 @@ use Rattle.bp_select.specs.Benches as bench
 use Rattle.bp_select.specs.Benches.{PlainBench}
 use Rattle.bp_select.specs.declared.answers.Choice.{Choice}
 use Rattle.bp_select.specs.declared.answers.Choice.TheVariants.{Internal, External, Nothing}
-use Rattle.bp_floor.specs.inner.Seating.{PlainSeat, outcome_in}
+use Rattle.bp_floor.specs.inner.Seats.{PlainSeat, outcome_in}
 
 -- this many events at the front of the queue are known to be blocked, by the block sets on the bench and by
 -- those that are away

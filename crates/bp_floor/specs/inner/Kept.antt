@@ -10,7 +10,7 @@ use Rattle.bp_run.specs.Settling.{Entry}
 use Rattle.bp_run.specs.Settling.Entry.{The_top, Runs, Stops}
 use Rattle.bp_floor.specs.declared.board.Board.{Board}
 use Rattle.bp_floor.specs.inner.Desks.{Fits}
-use Rattle.bp_floor.specs.inner.Seating.{is_waiting, is_ready, where_from, stated_from, AreOwn}
+use Rattle.bp_floor.specs.inner.Seats.{is_waiting, is_ready, where_from, stated_from, AreOwn}
 
 abbrev pub run_of : {O : Type 0} → Entry O → Option ℕ
 run_of The_top = None

@@ -23,7 +23,7 @@ use Rattle.bp_floor.specs.declared.board.Board.{Board}
 use Rattle.bp_floor.specs.inner.Desks.{Fits}
 use Rattle.bp_floor.specs.declared.touching.Touch.{Touch}
 use Rattle.bp_floor.specs.declared.touching.Touch.TheVariants.{Moves, Interrupts}
-use Rattle.bp_floor.specs.inner.Seating.{PlainSeat, seated, is_waiting, is_ready, where_from, stated_from, AreOwn}
+use Rattle.bp_floor.specs.inner.Seats.{PlainSeat, seated, is_waiting, is_ready, where_from, stated_from, AreOwn}
 use Rattle.bp_floor.specs.inner.Kept.{Running, Rises}
 use Rattle.bp_floor.specs.Returns.{IsSameBut, IsStated}
 

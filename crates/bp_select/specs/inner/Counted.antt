@@ -16,7 +16,7 @@ plain_tally y = record { counts = y.counts; changed = y.changed; whole = y.whole
 abbrev pub IsAlone : List (Live PlainSet) → Live PlainSet → Type 0
 IsAlone ts t = Each (λ u. (t.number ≡ u.number) ⊎ AreApart t u) ts
 
--- the b-thread of this number requests so many free events, and nobody else requests an event that
+-- the b-thread of this number requests this many free events, and nobody else requests an event that
 -- it requests, free or blocked; where nobody has this number, it is 0
 pub record IsCounted (base : Ground) (budget : ℕ) (sets : Sets) (ts : List (Live PlainSet))
     (n count : ℕ) : Type 0 where

@@ -3,7 +3,7 @@ use Rattle.std.specs.Prelude.{◌≡◌, ◌⊎◌, Bool, true, false, List, [],
 use Rattle.js_data.specs.Event.{PlainEvent}
 use Rattle.js_value.specs.Value.{PlainSet}
 use Rattle.bp_run.specs.Selecting.{Live}
-use Rattle.bp_select.specs.Blocking.{is_empty}
+use Rattle.bp_select.specs.EmptySets.{is_empty}
 
 abbrev pub are_none : List PlainEvent → Bool
 are_none [] = true

@@ -2,7 +2,7 @@ use Rattle.std.proofs.Common.{◌≡◌, ◌∙◌, ℕ, suc, arith, Bool, true,
 use Rattle.std.proofs.lemmas.Bool.{eqb-true}
 use Rattle.js_value.specs.Value.{PlainSet, any}
 use Rattle.js_value.specs.Views.{plain_set, set_list_of}
-use Rattle.bp_select.specs.Blocking.{is_empty}
+use Rattle.bp_select.specs.EmptySets.{is_empty}
 use Rattle.bp_select.proofs.asking.is_empty_set.Goals as goal
 
 not_none : (n : ℕ) (b : Bool) → nat_eq (suc n) 0 ≡ b → b ≡ false

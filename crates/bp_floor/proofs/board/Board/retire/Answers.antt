@@ -1,6 +1,6 @@
 use Rattle.std.proofs.Common.{◌∙◌, List, ap, refl, true}
 use Rattle.bp_run.specs.Configuration.{change}
-use Rattle.bp_floor.specs.inner.Seating.{PlainSeat}
+use Rattle.bp_floor.specs.inner.Seats.{PlainSeat}
 use Rattle.bp_floor.proofs.Onward.{retired_is, kept_retired}
 use Rattle.bp_floor.proofs.board.Board.retire.Goals as goal
 

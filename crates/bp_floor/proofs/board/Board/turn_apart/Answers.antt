@@ -1,6 +1,6 @@
 use Rattle.std.proofs.Common.{List, ap}
 use Rattle.bp_floor.specs.declared.board.Board.{Board}
-use Rattle.bp_floor.specs.inner.Seating.{PlainSeat}
+use Rattle.bp_floor.specs.inner.Seats.{PlainSeat}
 use Rattle.bp_floor.proofs.TurnLemmas.{back_within, turned_is, turn_keeps}
 use Rattle.bp_floor.proofs.board.Board.turn_apart.Goals as goal
 

@@ -3,7 +3,7 @@ use Rattle.js_frames.specs.Places.{plain_ground}
 use Rattle.bp_floor.specs.declared.phase.Phase.TheVariants as phase
 use Rattle.bp_floor.specs.Floors.{PlainFloor}
 use Rattle.bp_floor.specs.Loans.{AreLent, standing}
-use Rattle.bp_floor.specs.inner.Seating.{seated}
+use Rattle.bp_floor.specs.inner.Seats.{seated}
 use Rattle.bp_floor.proofs.Numbered.{lent_distinct}
 use Rattle.bp_floor.proofs.Sealing.{floor_of, run_on, ready_now, can_lend, lent_sound, lent_filled, lent_stands}
 use Rattle.bp_floor.proofs.floor.Floor.lend.Goals as goal

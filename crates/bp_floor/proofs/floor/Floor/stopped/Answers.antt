@@ -2,7 +2,7 @@ use Rattle.std.proofs.Common.{◌∙◌, List, Some, sym, ap, slice_get, option_
 use Rattle.js_meaning.specs.Bodies.{Origin}
 use Rattle.js_frames.specs.Places.{plain_ground}
 use Rattle.bp_run.specs.Settling.{Entry}
-use Rattle.bp_floor.specs.inner.Stops.{stop_in}
+use Rattle.bp_floor.specs.Stops.{stop_in}
 use Rattle.bp_floor.specs.inner.Kept.{Running, runs_in}
 use Rattle.bp_floor.specs.Floors.{PlainFloor}
 use Rattle.bp_floor.proofs.Sound.{rests_now, rest_nobody}

@@ -2,8 +2,8 @@ use Rattle.std.proofs.Common.{◌∙◌, List, Some, None, Option, length, sym, 
 use Rattle.std.proofs.lemmas.Option.{slice_get_within}
 use Rattle.bp_run.specs.Configuration.{change}
 use Rattle.bp_run.proofs.Turns.{length-change}
-use Rattle.bp_floor.specs.inner.Seating.{PlainSeat}
-use Rattle.bp_floor.specs.inner.Seated.{job_at}
+use Rattle.bp_floor.specs.inner.Seats.{PlainSeat}
+use Rattle.bp_floor.specs.inner.SeatViews.{job_at}
 use Rattle.bp_floor.proofs.Lists.{change_twice}
 use Rattle.bp_floor.proofs.seats.Seats.give.Goals as goal
 

@@ -3,7 +3,7 @@ use Rattle.js_frames.specs.Places.{plain_ground}
 use Rattle.bp_run.specs.Settling.Entry.{Stops}
 use Rattle.bp_floor.specs.declared.entry.Handler.{Handler}
 use Rattle.bp_floor.specs.inner.Entries.{handler_seen}
-use Rattle.bp_floor.specs.inner.Lent.{Lends}
+use Rattle.bp_floor.specs.inner.TakenOut.{Lends}
 use Rattle.bp_floor.proofs.seats.Seats.lend_handler.Goals as goal
 
 pub returns-in_ok-handler_job-in-Some : goal.returns-in_ok-handler_job-in-Some

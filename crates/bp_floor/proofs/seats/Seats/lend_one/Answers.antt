@@ -2,7 +2,7 @@ use Rattle.std.proofs.Common.{[], ◌∷◌, IfOk, option_to_list, refl, sym, su
 use Rattle.js_frames.specs.Places.{plain_ground}
 use Rattle.bp_floor.specs.declared.entry.Entry.{Entry}
 use Rattle.bp_floor.specs.inner.Entries.{entry_seen}
-use Rattle.bp_floor.specs.inner.Lent.{Lends}
+use Rattle.bp_floor.specs.inner.TakenOut.{Lends}
 use Rattle.bp_floor.proofs.LoanLemmas.{started}
 use Rattle.bp_floor.proofs.seats.Seats.lend_one.Goals as goal
 

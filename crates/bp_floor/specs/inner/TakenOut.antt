@@ -8,8 +8,8 @@ use Rattle.bp_run.specs.Settling.{Entry}
 use Rattle.bp_run.specs.Settling.Entry.{The_top, Runs, Stops}
 use Rattle.bp_thread.specs.declared.job.Job.{Job}
 use Rattle.bp_thread.specs.Jobs.{plain_job, IsOf, IsFresh}
-use Rattle.bp_floor.specs.inner.Seating.{PlainSeat, seated, is_waiting, is_ready, where_from, stated_from, AreOwn}
-use Rattle.bp_floor.specs.inner.Seated.{job_at}
+use Rattle.bp_floor.specs.inner.Seats.{PlainSeat, seated, is_waiting, is_ready, where_from, stated_from, AreOwn}
+use Rattle.bp_floor.specs.inner.SeatViews.{job_at}
 use Rattle.bp_floor.specs.inner.Kept.{Running, AreBelow, runs_in}
 use Rattle.bp_floor.specs.Loans.{AreLent, filled, standing}
 use Rattle.bp_floor.specs.Returns.{ground_at, RunsAlone}

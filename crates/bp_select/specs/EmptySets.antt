@@ -1,4 +1,4 @@
--- Which b-threads may block at all.
+-- Sets in which there is plainly no event.
 use Rattle.std.specs.Prelude.{Bool, true, false}
 use Rattle.js_value.specs.Value.{PlainSet, any, nothing, no_sets}
 
