@@ -12,7 +12,7 @@ use Rattle.bp_code.specs.Code.{sealed_code_of as code_of}
 use Rattle.bp_core.specs.declared.stepping.Core.{Core}
 use Rattle.bp_arbiter.specs.Arbiters.{PlainArbiter, Tells, code_in, options_in}
 use Rattle.bp_core.specs.Moments.{step_on}
-use Rattle.bp_core.specs.Cores.{IsSomewhere, Makes, KeepsProgram, Plays, IsRefused, AreBetween, Cuts, IsCutOff, IsStill, is_legal}
+use Rattle.bp_core.specs.Cores.{IsSomewhere, Makes, KeepsProgram, Plays, IsRefused, AreBetween, Cuts, IsCutOff, is_legal}
 use Rattle.bp_core.proofs.Legal.{refused}
 use Rattle.bp_arbiter.proofs.Told.{stands_tells}
 
@@ -61,6 +61,10 @@ made_more start now new front s p k q taken m h =
       at = y.at;
     }
 
+-- the next step is made of the same program
+pub keeps_on : (a b c : PlainArbiter) → KeepsProgram a b → KeepsProgram b c → KeepsProgram a c
+keeps_on a b c k l = record { program = l.program ∙ k.program; options = l.options ∙ k.options }
+
 pub playing_next : (start now new : Core) (all rest next : List CoreStep) (s : CoreStep) (at : ℕ) → Playing start now all rest at → rest ≡ s ∷ next → now.broken ≡ false → Makes now new s → KeepsProgram now.arbiter new.arbiter → new.out ≡ now.out →
     Playing start new all next (at + 1)
 playing_next start now new all rest next s at p e w q k i =
@@ -73,7 +77,7 @@ playing_next start now new all rest next s at p e w q k i =
       all_is = p.all_is ∙ ap (λ (xs : List CoreStep). p.front ++ xs) e ∙ sym (append_assoc p.front (s ∷ []) next);
       place = omega (arith, place, longer);
       made = made_more start now new p.front s p.made p.kept q;
-      kept = record { program = k.program ∙ (p.kept).program; options = k.options ∙ (p.kept).options };
+      kept = keeps_on start.arbiter now.arbiter new.arbiter p.kept k;
       somewhere = λ _. record { taken = there.taken; moment = step.next; at = step.at };
       inside = i ∙ p.inside;
       idle = λ b. absurd (let y = (p.idle b).0 in let z : true ≡ false = sym b ∙ ap (λ (c : Core). c.broken) (sym y) ∙ w in cc);
@@ -126,8 +130,11 @@ still_cuts c new s e taken m h =
     }
 
 -- memory had run out, so no step is made
-pub playing_stays : (start now : Core) (all rest : List CoreStep) (at : ℕ) → Playing start now all rest at → start.broken ≡ true → IsStill start now at
-playing_stays start now all rest at p b = let i = p.idle b in record { place = i.1; arbiter = ap (λ (c : Core). c.arbiter) i.0 }
+pub playing_same : (start now : Core) (all rest : List CoreStep) (at : ℕ) → Playing start now all rest at → start.broken ≡ true → now ≡ start
+playing_same start now all rest at p b = (p.idle b).0
+
+pub playing_first : (start now : Core) (all rest : List CoreStep) (at : ℕ) → Playing start now all rest at → start.broken ≡ true → at ≡ 0
+playing_first start now all rest at p b = (p.idle b).1
 
 -- a step was to be made
 pub playing_stays_not : (start now : Core) (all rest : List CoreStep) (at : ℕ) (P : Type 0) → Playing start now all rest at → now.broken ≡ false → start.broken ≡ true → P

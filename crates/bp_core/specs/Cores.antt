@@ -172,12 +172,3 @@ PlayEnds old new steps (fault.Memory at) = IsCutOff old new steps at
 pub record HasLent (old new : PlainArbiter) : Type 0 where
   pub ready : old.phase ≡ Ready
   pub count : length (stand_in new).threads ≡ length (stand_in old).threads
-
--- no step was made
-pub record IsStill (old new : Core) (at : ℕ) : Type 0 where
-  pub place : at ≡ 0
-  pub arbiter : new.arbiter ≡ old.arbiter
-
-abbrev pub StaysBroken : Core → Core → PlayFault → Type 0
-StaysBroken old new (fault.Illegal at step) = ⊥
-StaysBroken old new (fault.Memory at) = IsStill old new at

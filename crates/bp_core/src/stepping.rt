@@ -14,6 +14,7 @@ ghost use Rattle.bp_floor.specs.declared.phase.Phase.TheVariants as phase;
 ghost use Rattle.bp_arbiter.specs.Arbiters.{opened, is_lent, coming, stand_in, Tells};
 ghost use Rattle.bp_arbiter.specs.Pick.{picked_of};
 ghost use Rattle.bp_arbiter.specs.Absorb.{is_failed, absorbed, ComesBack};
+ghost use Rattle.bp_core.specs.declared.play_fault.PlayFault.TheVariants as play_fault;
 ghost use Rattle.bp_core.specs.Cores.{KeepsProgram, HasLent, is_rest, has_outcome};
 ghost use Rattle.bp_core.specs.Moments.{is_ready, IsReadyAt, IsAt};
 
@@ -118,7 +119,7 @@ impl Drop for Core {
 }
 
 impl Core {
-    ghost use Rattle.bp_core.specs.Cores.{IsCoreAt, IsSomewhere, Makes, AreDone, HandsIn, CanRunNow, Cuts, takes, is_open, is_legal, Plays, PlayEnds, StaysBroken};
+    ghost use Rattle.bp_core.specs.Cores.{IsCoreAt, IsSomewhere, Makes, AreDone, HandsIn, CanRunNow, Cuts, takes, is_open, is_legal, Plays, PlayEnds};
 
     /// An opened arbiter whose first job is lent.
     pub fn open(alloc: Global, program: Program, options: Options) -> Result<Core, Memory>
@@ -139,7 +140,7 @@ impl Core {
     }
 
     /// What comes next comes, and what is to be run then is lent. Its only error is out of memory,
-    /// after which each later call answers it.
+    /// after which each later call answers it and changes nothing.
     pub fn pick(&mut self) -> Result<Picked, Memory>
         requires rest { self.old.arbiter.phase ≡ phase.Rest }
         ensures leads { OnOk result (Makes self.old self.new step.Pick) }
@@ -148,6 +149,7 @@ impl Core {
             k ≡ picked_of (coming self.old.arbiter m.told)) }
         ensures broken { OnErr result (self.new.broken ≡ true) }
         ensures stays { self.old.broken ≡ true → IsErr result }
+        ensures same { self.old.broken ≡ true → self.new ≡ self.old }
         ensures cut { OnErr result (Cuts self.old self.new step.Pick) }
         ensures kept { KeepsProgram self.old.arbiter self.new.arbiter }
         ensures inside { self.new.out ≡ self.old.out }
@@ -195,7 +197,7 @@ impl Core {
 
     /// The turn of the lent jobs, each of which has its outcome, is merged, and what is to be run then
     /// is lent: then more b-threads are there. Its only error is out of memory, after which each later
-    /// call answers it.
+    /// call answers it and changes nothing.
     pub fn seal(&mut self) -> Result<(), Memory>
         requires lent { self.old.arbiter.phase ≡ phase.Lent }
         requires done { AreDone self.old.jobs.items }
@@ -206,6 +208,7 @@ impl Core {
             < length (stand_in self.new.arbiter).threads) }
         ensures broken { OnErr result (self.new.broken ≡ true) }
         ensures stays { self.old.broken ≡ true → IsErr result }
+        ensures same { self.old.broken ≡ true → self.new ≡ self.old }
         ensures cut { OnErr result (Cuts self.old self.new step.Seal) }
         ensures kept { KeepsProgram self.old.arbiter self.new.arbiter }
         ensures inside { self.new.out ≡ self.old.out }
@@ -396,7 +399,9 @@ impl Core {
         ensures played { OnOk result (Plays self.old self.new steps.items) }
         ensures ends { IfErr result (PlayEnds self.old self.new steps.items) }
         ensures stays { self.old.broken ≡ true → 0 < length steps.items →
-            IsErrAnd result (StaysBroken self.old self.new) }
+            result ≡ Err (play_fault.Memory 0) }
+        ensures same { self.old.broken ≡ true → self.new ≡ self.old }
+        ensures kept { KeepsProgram self.old.arbiter self.new.arbiter }
         ensures inside { self.new.out ≡ false }
     {
         let mut at = 0;

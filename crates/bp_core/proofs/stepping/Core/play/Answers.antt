@@ -1,7 +1,8 @@
-use Rattle.std.proofs.Common.{◌∙◌, sym}
+use Rattle.std.proofs.Common.{◌∙◌, ℕ, sym, ap, Err}
 use Rattle.std.specs.Vec.Iter.{into_iter_items}
 use Rattle.bp_floor.proofs.Lists.{nothing_to_come}
-use Rattle.bp_core.proofs.Playing.{playing_begin, playing_next, playing_end, playing_refused, playing_cut, broken_cuts, playing_stays, playing_stays_not, playing_stays_end}
+use Rattle.bp_core.proofs.Playing.{playing_begin, playing_next, playing_end, playing_refused, playing_cut, broken_cuts, playing_same, playing_first, keeps_on, playing_stays_not, playing_stays_end}
+use Rattle.bp_core.specs.declared.play_fault.PlayFault.TheVariants as fault
 use Rattle.bp_core.proofs.stepping.Core.play.Goals as goal
 
 pub loop-step-init : goal.loop-step-init
@@ -35,7 +36,7 @@ returns-in-Err-clause-ends c =
     c.loop-step.invariant.playing c.in-Some.ensures.steps.0 c.in-Err.ensures.cut c.in-Err.ensures.broken
 
 pub returns-then-self-clause-stays : goal.returns-then-self-clause-stays
-returns-then-self-clause-stays c = λ b l. playing_stays c.args.self.now c.loop-step.self c.args.steps.items (into_iter_items c.loop-step.step-iterator) c.loop-step.at c.loop-step.invariant.playing b
+returns-then-self-clause-stays c = λ b l. ap (λ (n : ℕ). Err (fault.Memory n)) (playing_first c.args.self.now c.loop-step.self c.args.steps.items (into_iter_items c.loop-step.step-iterator) c.loop-step.at c.loop-step.invariant.playing b)
 
 pub returns-then-not-is_legal-clause-stays : goal.returns-then-not-is_legal-clause-stays
 returns-then-not-is_legal-clause-stays c = λ b l.
@@ -48,3 +49,28 @@ returns-in-Err-clause-stays c = λ b l.
 pub returns-clause-stays : goal.returns-clause-stays
 returns-clause-stays c = λ b l.
     playing_stays_end c.args.self.now c.loop-step.self c.args.steps.items (into_iter_items c.loop-step.step-iterator) c.loop-step.at _ c.loop-step.invariant.playing (nothing_to_come c.loop-step.step-iterator c.in-None.ensures.steps.0) b l
+
+pub returns-then-self-clause-same : goal.returns-then-self-clause-same
+returns-then-self-clause-same c = λ b. playing_same c.args.self.now c.loop-step.self c.args.steps.items (into_iter_items c.loop-step.step-iterator) c.loop-step.at c.loop-step.invariant.playing b
+
+pub returns-then-not-is_legal-clause-same : goal.returns-then-not-is_legal-clause-same
+returns-then-not-is_legal-clause-same c = λ b. playing_same c.args.self.now c.loop-step.self c.args.steps.items (into_iter_items c.loop-step.step-iterator) c.loop-step.at c.loop-step.invariant.playing b
+
+pub returns-in-Err-clause-same : goal.returns-in-Err-clause-same
+returns-in-Err-clause-same c = λ b.
+    playing_stays_not c.args.self.now c.loop-step.self c.args.steps.items (into_iter_items c.loop-step.step-iterator) c.loop-step.at _ c.loop-step.invariant.playing c.if-self.false b
+
+pub returns-clause-same : goal.returns-clause-same
+returns-clause-same c = λ b. playing_same c.args.self.now c.loop-step.self c.args.steps.items (into_iter_items c.loop-step.step-iterator) c.loop-step.at c.loop-step.invariant.playing b
+
+pub returns-then-self-clause-kept : goal.returns-then-self-clause-kept
+returns-then-self-clause-kept c = c.loop-step.invariant.playing.kept
+
+pub returns-then-not-is_legal-clause-kept : goal.returns-then-not-is_legal-clause-kept
+returns-then-not-is_legal-clause-kept c = c.loop-step.invariant.playing.kept
+
+pub returns-in-Err-clause-kept : goal.returns-in-Err-clause-kept
+returns-in-Err-clause-kept c = keeps_on c.args.self.now.arbiter c.loop-step.self.arbiter c.make.new.self.arbiter c.loop-step.invariant.playing.kept c.make.ensures.kept
+
+pub returns-clause-kept : goal.returns-clause-kept
+returns-clause-kept c = c.loop-step.invariant.playing.kept
