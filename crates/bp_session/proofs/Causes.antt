@@ -1,5 +1,5 @@
 -- What the outlets are after several steps, and what a fault came of.
-use Rattle.std.proofs.Common.{◌≡◌, ◌∙◌, arith, refl, sym, subst, List, Option, Some, None}
+use Rattle.std.proofs.Common.{◌≡◌, ◌∙◌, arith, refl, ap, sym, subst, List, Option, Some, None}
 use Rattle.std.specs.Prelude.{Result, Ok, Err, IfSome, IsErrOf, IsErrAnd}
 use Rattle.bp_base.specs.Counts.{Rose}
 use Rattle.bp_base.specs.declared.outside.Sink.{Ghosts}
@@ -32,6 +32,10 @@ module _ {L : Type 0} (l : Ghosts L) where
   fails_still (Some x) None c s t f = absurd f
   fails_still (Some x) (Some m) None s t f = absurd t
   fails_still (Some x) (Some m) (Some n) s t f = rose_on (l.faults x) (l.faults m) (l.faults n) f s.1 t.1
+
+-- an answer that is not this fault
+pub other_fault : {T : Type 0} (r : Result T RunFault) (f g : RunFault) → r ≡ Err f → ¬ IsErrOf r g → ¬ (f ≡ g)
+other_fault r f g e n h = n (e ∙ ap (λ (x : RunFault). Err x) h)
 
 -- what telling answers of its faults
 pub caused_by : {K L T : Type 0} (k : Ghosts K) (l : Ghosts L) (r : Result T RunFault) (x y : K) (a b : Option L) → (IsErrOf r Write → Rose (k.faults x) (k.faults y)) → (IsErrOf r LogWrite → LogFails l.faults a b) → IfSome (told_fault r) (IsCaused k l x y a b)

@@ -17,13 +17,7 @@ use Rattle.bp_told.specs.declared.fault.RunFault.TheVariants.{Write, LogWrite, M
 use Rattle.bp_told.proofs.Told.{told_broken, broken_part}
 use Rattle.bp_session.specs.declared.stop.Stop.{Stop}
 use Rattle.bp_session.specs.declared.stop.Stop.TheVariants as stop
-use Rattle.bp_session.specs.inner.Serving.{IsReady, IsServing, IsAllTold, IsBrokenOff, IsAllWritten, IsFrontWritten, IsServedTo, IsEnded, TellsAll, StopsServing, CanTellRest, ending_of, broke_at}
-
--- no fault is a failed source
-pub broke_none : (f : RunFault) → broke_at (ending_of f) ≡ None
-broke_none Write = refl
-broke_none LogWrite = refl
-broke_none Memory = refl
+use Rattle.bp_session.specs.inner.Serving.{IsReady, IsServing, IsAllTold, IsBrokenOff, IsAllWritten, IsFrontWritten, IsServedTo, IsEnded, WritesRun, StopsServing, CanTellRest, ending_of}
 
 module _ {L : Type 0} (written : L → Option (List ℕ)) (l : Code Origin PlainSet) (o : PlainOptions) (head : List ℕ) (first : Given L) (c : Core) where
   -- all that was told was written
@@ -87,7 +81,7 @@ module _ {L S : Type 0} (written : L → Option (List ℕ)) (before : Core) (old
   can_tell (Err (stop.Unwritten f)) r h = tt
 
   -- whatever run was served was served to where this stands
-  pub served_to : (served : Result logs.Verdict Stop) → IfOk served (λ v. verdict_of after.arbiter.records ≡ Some v) → OnOk served (TellsAll written before old a after new b) → IfErr served (StopsServing written before old a after new b readings) →
+  pub served_to : (served : Result logs.Verdict Stop) → IfOk served (λ v. verdict_of after.arbiter.records ≡ Some v) → OnOk served (WritesRun written before old a after new) → IfErr served (StopsServing written before old a after new b readings) →
       (l : Code Origin PlainSet) (o : PlainOptions) (head : List ℕ) (first : Given L) → IsServing written l o head first before old a → IsServedTo written l o head first after new b readings served
   served_to (Ok v) f t h l o head first s = (f, t l o head first s)
   served_to (Err e) f t h l o head first s = h l o head first s

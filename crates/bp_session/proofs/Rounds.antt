@@ -16,10 +16,11 @@ use Rattle.bp_scope.specs.declared.reading.Reading.{Reading}
 use Rattle.bp_session.specs.declared.stop.Stop.{Stop}
 use Rattle.bp_session.specs.declared.stop.Stop.TheVariants as stop
 use Rattle.bp_session.specs.inner.Hearing.{HearsOn, StopsHearing}
-use Rattle.bp_session.specs.inner.Serving.{IsReady, TellsAll, ServesOn, BreaksServing, StillTold, IsToldStill, StopsTurning, StopsServing, LeadsOn, CutsAt, KeepsItems}
+use Rattle.bp_session.specs.inner.Serving.{IsReady, TellsAll, WritesRun, ServesOn, BreaksServing, StillTold, IsToldStill, StopsTurning, StopsServing, LeadsOn, CutsAt, KeepsItems}
 use Rattle.bp_session.proofs.Served.{serving_on, cut_off, stop_here, some_text, here_tells, ready_somewhere, ready_on}
 use Rattle.bp_session.proofs.Hears.{heard_kept}
 use Rattle.bp_session.proofs.Tells.{write_still}
+use Rattle.bp_session.proofs.Ends.{all_written}
 
 -- what a `?` hands on
 pub from_err : {T E : Type 0} (r : Result T E) (s : E) (P : E → Type 0) → IsErrAnd r (λ e. e ≡ s) → P s → IfErr r P
@@ -96,6 +97,10 @@ module _ {L : Type 0} (written : L → Option (List ℕ)) where
   pub serves_still : (a c : Core) (x old new : Given L) (u w v : Waiting) → ServesOn written a x u c old w → StillTold written old w new v → ServesOn written a x u c new v
   serves_still a c x old new u w v f t = serves_both f (still_serves c old new w v t)
 
+  -- all was told before, and then written
+  pub writes_run : (a c : Core) (x old new : Given L) (u w v : Waiting) → TellsAll written a x u c old w → WritesAll written old w new v → WritesRun written a x u c new
+  writes_run a c x old new u w v f t l o head first s = all_written written l o head first c old new w v t (f l o head first s)
+
   pub still_none : (a : Given L) (w : Waiting) → StillTold written a w a w
   still_none a w text head first records lines t = t
 
@@ -138,15 +143,17 @@ module _ {L : Type 0} (written : L → Option (List ℕ)) where
     turn_stops c old new w v (stop.Read j) f l o head first s = absurd f
     turn_stops c old new w v (stop.Broken e) f l o head first s = here_breaks c new v e l o head first (still_serves c old new w v f.1 l o head first s)
     turn_stops c old new w v (stop.Unwritten e) f l o head first s =
-        let rs = c.arbiter.records in
-        record {
-          story = some_text l o c.arbiter s.taken s.code s.options (here_tells c s.taken s.moment s.here);
-          front = take w.kept rs;
-          later = drop w.kept rs;
-          lines = s.taken;
-          is_front = take-append-drop w.kept rs;
-          part = f (text l o) head first (take w.kept rs) s.taken s.told;
-        }
+        let rs = c.arbiter.records in (
+          f.0,
+          record {
+            story = some_text l o c.arbiter s.taken s.code s.options (here_tells c s.taken s.moment s.here);
+            front = take w.kept rs;
+            later = drop w.kept rs;
+            lines = s.taken;
+            is_front = take-append-drop w.kept rs;
+            part = f.1 (text l o) head first (take w.kept rs) s.taken s.told;
+          },
+        )
 
     -- and it was served before
     pub turn_stops_then : (a c : Core) (x old new : Given L) (u w v : Waiting) (s : Stop) → ServesOn written a x u c old w → StopsTurning written old w new v s → StopsServing written a x u c new v readings s

@@ -1,4 +1,5 @@
 //! How a session is woken by its injectors, and wakes them.
+use crate::written::Written;
 use bp_lanes::{Bell, Rope, Wake};
 use std::sync::Wait;
 use std::thread::Threads;
@@ -31,7 +32,7 @@ impl<'a> Calls<'a> {
     }
 
     /// Waits until an injector rings.
-    pub(crate) fn wait<R: Threads + Wait + Sync>(&mut self, rt: &R) {
+    pub(crate) fn wait<R: Threads + Wait + Sync>(&mut self, rt: &R, _written: Written<'_>) {
         self.rope.wait(rt);
     }
 

@@ -9,8 +9,8 @@ ghost use Rattle.bp_hear.specs.Hearings.{AreHeard};
 ghost use Rattle.bp_scope.specs.Readings.{Pairs, IsHeld, GoesOnAs, HasFailed, AreBack};
 ghost use Rattle.bp_told.specs.Told.{Given, given};
 ghost use Rattle.bp_session.specs.inner.Hearing.{HearOn, CanServe};
-ghost use Rattle.bp_session.specs.inner.Outlets.{given_to, served_fault, ended_fault, WritesOn, WritesTo};
-ghost use Rattle.bp_session.specs.inner.Serving.{IsReady, IsServing, IsBrokenOff, IsServedTo, CanTellRest, IsEnded, EndsServing, ending_of, broke_at};
+ghost use Rattle.bp_session.specs.inner.Outlets.{given_to, served_fault, ended_fault, WritesOn, WritesTo, WritesRest};
+ghost use Rattle.bp_session.specs.inner.Serving.{IsReady, IsServing, IsBrokenOff, IsServedTo, CanTellRest, IsEnded, EndsServing, MayLackMemory, MayStillWrite, ending_of, broke_at};
 
 use crate::calling::Calls;
 use crate::outlets::Outlets;
@@ -51,6 +51,9 @@ fn write_front<K: Sink, L: Sink>(
         IsBrokenOff L.written l o head first c (given_to K.Sink outlets.old) telling.old fault →
         IsEnded L.written l o head first c (given_to K.Sink outlets.new) result }
     ensures broke { broke_at result ≡ None }
+    ensures memory { result ≡ Ending.Memory → fault ≡ RunFault.Memory }
+    ensures rest { ¬ (fault ≡ RunFault.LogWrite) →
+        WritesRest K.Sink L.Sink outlets.old telling.old outlets.new }
     ensures writes { (first : Outlets K L) →
         WritesTo K.Sink L.Sink first outlets.old (Some fault) →
         WritesTo K.Sink L.Sink first outlets.new (ended_fault result) }
@@ -108,16 +111,16 @@ fn ended<S: Source, K: Sink, L: Sink>(
         readings.now.items served →
         IsEnded L.written l o head first core.new (given_to K.Sink outlets.new) result }
     ensures broke { IfSome (broke_at result) (λ j. served ≡ Err (Stop.Read j)) }
+    ensures memory { result ≡ Ending.Memory → MayLackMemory served }
+    ensures front { MayStillWrite served →
+        WritesRest K.Sink L.Sink outlets.old telling.old outlets.new }
     ensures records { core.new.arbiter.records ≡ core.old.arbiter.records }
     ensures writes { (first : Outlets K L) →
         WritesTo K.Sink L.Sink first outlets.old (served_fault served) →
         WritesTo K.Sink L.Sink first outlets.new (ended_fault result) }
 {
     match served {
-        Ok(verdict) => match outlets.flush(telling) {
-            Ok(()) => Ending::Verdict(verdict),
-            Err(fault) => ending_of(fault),
-        },
+        Ok(verdict) => Ending::Verdict(verdict),
         Err(Stop::Read(number)) => write_read(alloc, number, core, telling, outlets),
         Err(Stop::Broken(fault)) => write_front(fault, telling, outlets),
         Err(Stop::Unwritten(fault)) => ending_of(fault),

@@ -13,6 +13,7 @@ mod showing;
 mod stop;
 mod telling;
 mod turning;
+mod written;
 
 pub use report::{Ending, Report};
 pub use running::Session;

@@ -1,6 +1,6 @@
 //! The two outlets of a run.
-ghost use Rattle.std.specs.Prelude.{OnOk};
-ghost use Rattle.bp_told.specs.Told.{WritesAll, WritesPart};
+ghost use Rattle.std.specs.Prelude.{OnOk, IsErrOf};
+ghost use Rattle.bp_told.specs.Told.{NothingWaits, WritesAll, WritesPart, WritesOut};
 ghost use Rattle.bp_session.specs.inner.Outlets.{given_to, told_fault, WritesTo};
 
 use bp_base::Sink;
@@ -13,12 +13,16 @@ pub(crate) struct Outlets<'a, 'b, K, L> {
 }
 
 impl<K: Sink, L: Sink> Outlets<'_, '_, K, L> {
-    /// Writes all that waits: what is for the log, and then the lines.
+    /// Writes all that waits: what is for the log, and then the lines. Then nothing waits.
     pub(crate) fn flush(&mut self, telling: &mut Telling) -> Result<(), RunFault>
         ensures all { OnOk result (WritesAll L.written (given_to K.Sink self.old) telling.old
             (given_to K.Sink self.new) telling.new) }
         ensures part { WritesPart L.written (given_to K.Sink self.old) telling.old
             (given_to K.Sink self.new) }
+        ensures whole { OnOk result (WritesOut L.written (given_to K.Sink self.old) telling.old
+            (given_to K.Sink self.new)) }
+        ensures nothing { OnOk result (NothingWaits telling.new) }
+        ensures memory { ¬ IsErrOf result RunFault.Memory }
         ensures writes { WritesTo K.Sink L.Sink self.old self.new (told_fault result) }
     {
         telling.flush(self.out, self.log)

@@ -22,6 +22,7 @@ pub enum Ending {
 pub struct Report {
     /// How it ended.
     pub end: Ending,
-    /// All that was recorded of its run, in order.
+    /// The records of its run, in order, of which the clauses of `Session::run` say what was printed, logged
+    /// and heard. There are none if memory ran out before the run began.
     pub records: Records,
 }

@@ -109,14 +109,18 @@ fn served<S: Source + Send + Drop, R: Threads + Wait + Sync, K: Sink, L: Sink, V
 pub struct Session;
 
 impl Session {
-    /// Runs the program to its end under the options of the header, with these workers and this slice,
-    /// which make no difference to what is told. Each input is read on a thread of its own, and what is
-    /// there of it enters between two transitions; if no thread can be made the calling one reads, but
-    /// only where the run waits. Prints the text of the run and writes its log, if one is kept: the header
-    /// before anything is printed, and each record before the lines that come of it. All that was told is
-    /// written before anything waits. If nothing can be selected, a run that waits for its injectors waits
-    /// for one that is still read, and any other run ends. Returns once each injector has returned from
-    /// its source, and gives the inputs back, in order.
+    /// Runs the program under the options of the header, prints the text of the run, writes its log if one
+    /// is kept, and gives the inputs back, in order. The clauses speak of the records of the report, and hold
+    /// with any workers and any slice: how much of their text was printed and of their log written at each
+    /// ending, that no line is printed before its record stands in the log, and what was heard of each
+    /// input.
+    ///
+    /// No clause speaks of threads or of waiting. Each input is read on a thread of its own, and what is
+    /// there of it enters between two transitions; if no thread can be made the calling one reads, but only
+    /// where the run waits. All that was told is written before the run waits: that is proved inside, since
+    /// what may wait asks for it. If nothing can be selected, a run that waits for its injectors waits for
+    /// one that is still read, and any other run ends. This returns once each injector has returned from
+    /// its source.
     pub fn run<S: Source + Send + Drop, R: Threads + Wait + Sync, K: Sink, L: Sink>(
         rt: &R,
         alloc: Global,

@@ -5,11 +5,11 @@ ghost use Rattle.bp_log.specs.Records.{verdict_of};
 ghost use Rattle.bp_floor.specs.declared.phase.Phase.TheVariants as phase;
 ghost use Rattle.bp_core.specs.Cores.{KeepsProgram};
 ghost use Rattle.bp_scope.specs.Readings.{Pairs, GoesOnAs};
-ghost use Rattle.bp_told.specs.Told.{WritesAll};
+ghost use Rattle.bp_told.specs.Told.{NothingWaits, WritesAll};
 ghost use Rattle.bp_session.specs.inner.Hearing.{AreAsHeard, HearOn, CanServe};
 ghost use Rattle.bp_session.specs.inner.Turning.{turns_here, MakeTurns, IsWaiting};
 ghost use Rattle.bp_session.specs.inner.Outlets.{given_to, told_fault, served_fault, WritesTo};
-ghost use Rattle.bp_session.specs.inner.Serving.{IsReady, ServesOn, BreaksServing, IsToldStill, StopsServing, StopsTurning, TellsAll, LeadsOn, CutsAt, KeepsItems};
+ghost use Rattle.bp_session.specs.inner.Serving.{IsReady, ServesOn, BreaksServing, IsToldStill, StopsServing, StopsTurning, TellsAll, WritesRun, LeadsOn, CutsAt, KeepsItems};
 ghost use Rattle.bp_turns.specs.Settled.{IsSomewhereHere, IsSettled};
 
 use crate::calling::Calls;
@@ -19,6 +19,7 @@ use crate::showing::Shows;
 use crate::stop::Stop;
 use crate::telling::{tell, write};
 use crate::turning::{some_turn_here, turn_all_here};
+use crate::written::Written;
 use bp_base::{Memory, Sink, Source};
 use bp_core::{Core, Phase, Picked};
 use bp_log::{Parallelism, Verdict};
@@ -42,10 +43,11 @@ fn write_and_show<R: Threads + Wait + Sync, K: Sink, L: Sink, V: Shows>(
         (given_to K.Sink outlets.new) telling.new) }
     ensures stops { IfErr result (StopsTurning L.written (given_to K.Sink outlets.old) telling.old
         (given_to K.Sink outlets.new) telling.new) }
+    ensures nothing { OnOk result (NothingWaits telling.new) }
     ensures writes { WritesTo K.Sink L.Sink outlets.old outlets.new (served_fault result) }
 {
     write(telling, outlets)?;
-    shows.show(rt, alloc, core)?;
+    shows.show(rt, alloc, core, Written::of(telling))?;
     Ok(())
 }
 
@@ -75,14 +77,14 @@ fn turn_here<S: Source, R: Threads + Wait + Sync, K: Sink, L: Sink, V: Shows>(
         return Ok(false);
     }
     write_and_show(rt, alloc, core, telling, outlets, shows)?;
-    turn_all_here(readings)?;
+    turn_all_here(readings, Written::of(telling))?;
     Ok(true)
 }
 
 /// Waits until an injector rings, where there are any.
-fn wait_at<R: Threads + Wait + Sync>(rt: &R, calls: &mut Option<Calls<'_>>) {
+fn wait_at<R: Threads + Wait + Sync>(rt: &R, calls: &mut Option<Calls<'_>>, written: Written<'_>) {
     if let Some(calls) = calls {
-        calls.wait(rt);
+        calls.wait(rt, written);
     }
 }
 
@@ -109,7 +111,7 @@ fn wait_where<R: Threads + Wait + Sync, K: Sink, L: Sink, V: Shows>(
         return Ok(());
     }
     write_and_show(rt, alloc, core, telling, outlets, shows)?;
-    wait_at(rt, calls);
+    wait_at(rt, calls, Written::of(telling));
     Ok(())
 }
 
@@ -223,18 +225,25 @@ fn verdict_in(core: &Core) -> Result<Verdict, Memory>
     }
 }
 
-/// Shows the run, which is over, and answers its verdict.
-fn verdict_shown<R: Threads + Wait + Sync, V: Shows>(
+/// Writes what waits to be written of the run, which is over, shows it, and answers its verdict.
+fn verdict_shown<R: Threads + Wait + Sync, K: Sink, L: Sink, V: Shows>(
     rt: &R,
     alloc: Global,
     core: &Core,
+    telling: &mut Telling,
+    outlets: &mut Outlets<'_, '_, K, L>,
     shows: &mut V,
-) -> Result<Verdict, Memory>
+) -> Result<Verdict, Stop>
     requires { core.now.arbiter.phase ≡ phase.Over }
-    ensures { IfOk result (λ v. verdict_of core.now.arbiter.records ≡ Some v) }
+    ensures verdict { IfOk result (λ v. verdict_of core.now.arbiter.records ≡ Some v) }
+    ensures all { OnOk result (WritesAll L.written (given_to K.Sink outlets.old) telling.old
+        (given_to K.Sink outlets.new) telling.new) }
+    ensures stops { IfErr result (StopsTurning L.written (given_to K.Sink outlets.old) telling.old
+        (given_to K.Sink outlets.new) telling.new) }
+    ensures writes { WritesTo K.Sink L.Sink outlets.old outlets.new (served_fault result) }
 {
     let verdict = verdict_in(core)?;
-    shows.show(rt, alloc, core)?;
+    write_and_show(rt, alloc, core, telling, outlets, shows)?;
     Ok(verdict)
 }
 
@@ -267,8 +276,8 @@ fn settle_and_tell<C: Carrier, K: Sink, L: Sink>(
 
 /// Serves the run to its verdict: has what is there of the injectors enter, makes what comes next, has
 /// jobs carried to their outcomes, and tells all of it as it comes. What is told is written before
-/// anything may wait, and after a round in which something entered. The run is shown before anything may
-/// wait, and once it is over. Without injectors nobody calls, and nothing waits.
+/// anything may wait, after a round in which something entered, and once the run is over. The run is shown
+/// before anything may wait, and once it is over. Without injectors nobody calls, and nothing waits.
 pub(crate) fn serve_on<S: Source, R: Threads + Wait + Sync, K: Sink, L: Sink, V: Shows>(
     rt: &R,
     alloc: Global,
@@ -283,8 +292,8 @@ pub(crate) fn serve_on<S: Source, R: Threads + Wait + Sync, K: Sink, L: Sink, V:
     requires can { CanServe L.written core.old (given_to K.Sink outlets.old) telling.old
         readings.old.items }
     ensures verdict { IfOk result (λ v. verdict_of core.new.arbiter.records ≡ Some v) }
-    ensures tells { OnOk result (TellsAll L.written core.old (given_to K.Sink outlets.old)
-        telling.old core.new (given_to K.Sink outlets.new) telling.new) }
+    ensures written { OnOk result (WritesRun L.written core.old (given_to K.Sink outlets.old)
+        telling.old core.new (given_to K.Sink outlets.new)) }
     ensures stops { IfErr result (StopsServing L.written core.old (given_to K.Sink outlets.old)
         telling.old core.new (given_to K.Sink outlets.new) telling.new readings.new.items) }
     ensures hears { HearOn S.left S.faults core.new.arbiter.records readings.old.items
@@ -296,7 +305,7 @@ pub(crate) fn serve_on<S: Source, R: Threads + Wait + Sync, K: Sink, L: Sink, V:
     for _ in rt.forever() {
         settle_and_tell(alloc, core, &workers, telling, outlets)?;
         if core.arbiter().phase() == Phase::Over {
-            return Ok(verdict_shown(rt, alloc, core, shows)?);
+            return verdict_shown(rt, alloc, core, telling, outlets, shows);
         }
         write_where(heard, telling, outlets)?;
         heard = round(rt, alloc, core, telling, outlets, calls, readings, shows)?;

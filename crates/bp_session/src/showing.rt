@@ -1,11 +1,13 @@
 //! What a session shows of its run while it serves it.
+use crate::written::Written;
 use bp_base::Memory;
 use bp_core::Core;
 use std::alloc::Global;
 use std::sync::Wait;
 use std::thread::Threads;
 
-/// What is shown the run that a session serves: before anything waits, and once it is over.
+/// What is shown the run that a session serves: before anything waits, and once it is over. It may wait
+/// itself, so all that was told is written before.
 pub(crate) trait Shows {
     ghost use denote.Param.Send.{IsSync};
 
@@ -15,6 +17,7 @@ pub(crate) trait Shows {
         rt: &R,
         alloc: Global,
         core: &Core,
+        written: Written<'_>,
     ) -> Result<(), Memory>
         requires { IsSync R.row };
 }
@@ -29,6 +32,7 @@ impl Shows for Silent {
         _rt: &R,
         _alloc: Global,
         _core: &Core,
+        _written: Written<'_>,
     ) -> Result<(), Memory> {
         Ok(())
     }

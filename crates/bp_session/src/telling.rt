@@ -1,6 +1,6 @@
 //! What a session tells of its run.
 ghost use Rattle.std.specs.Prelude.{◌≡◌, true, OnOk, IfErr};
-ghost use Rattle.bp_told.specs.Told.{WritesAll};
+ghost use Rattle.bp_told.specs.Told.{NothingWaits, WritesAll};
 ghost use Rattle.bp_floor.specs.Floors.{is_idle};
 ghost use Rattle.bp_session.specs.inner.Outlets.{given_to, told_fault, served_fault, WritesTo};
 ghost use Rattle.bp_session.specs.inner.Serving.{IsReady, ServesOn, BreaksServing, TellsAll, StopsTurning, KeepsRun};
@@ -42,7 +42,7 @@ pub(crate) fn tell<K: Sink, L: Sink>(
     )
 }
 
-/// Writes all that waits: what is for the log, and then the lines.
+/// Writes all that waits: what is for the log, and then the lines. Then nothing waits.
 pub(crate) fn write<K: Sink, L: Sink>(
     telling: &mut Telling,
     outlets: &mut Outlets<'_, '_, K, L>,
@@ -51,6 +51,7 @@ pub(crate) fn write<K: Sink, L: Sink>(
         (given_to K.Sink outlets.new) telling.new) }
     ensures stops { IfErr result (StopsTurning L.written (given_to K.Sink outlets.old) telling.old
         (given_to K.Sink outlets.new) telling.new) }
+    ensures nothing { OnOk result (NothingWaits telling.new) }
     ensures writes { WritesTo K.Sink L.Sink outlets.old outlets.new (served_fault result) }
 {
     match outlets.flush(telling) {

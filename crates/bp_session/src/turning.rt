@@ -5,6 +5,7 @@ ghost use Rattle.bp_scope.specs.Readings.{Pairs, GoesOnAs};
 ghost use Rattle.bp_session.specs.inner.Hearing.{AreAsHeard};
 ghost use Rattle.bp_session.specs.inner.Turning.{turns_here, MakesTurn, MakeTurns};
 
+use crate::written::Written;
 use bp_base::{Memory, Source};
 use bp_inject::Started;
 use bp_scope::Reading;
@@ -49,8 +50,11 @@ fn turn_here<S: Source>(reading: &mut Reading<S>) -> Result<(), Memory>
     }
 }
 
-/// Makes one turn of each injector that has no thread and is not over.
-pub(crate) fn turn_all_here<S: Source>(readings: &mut Vec<Reading<S>>) -> Result<(), Memory>
+/// Makes one turn of each injector that has no thread and is not over. A turn may wait for its source.
+pub(crate) fn turn_all_here<S: Source>(
+    readings: &mut Vec<Reading<S>>,
+    _written: Written<'_>,
+) -> Result<(), Memory>
     ensures goes_on { Pairs (GoesOnAs S.left S.faults) readings.old.items readings.new.items }
     ensures hearing { AreAsHeard readings.old.items readings.new.items }
     ensures turns { OnOk result (MakeTurns readings.old.items readings.new.items) }

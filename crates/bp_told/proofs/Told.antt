@@ -9,7 +9,7 @@ use Rattle.bp_log.specs.declared.trace.Line.{Line}
 use Rattle.bp_told.specs.Logging.{LogGets, LogHolds, LogWaits, LogShows, LogShowsFront}
 use Rattle.bp_told.specs.Order.{Texts, StaysBehind, PrintsBehind}
 use Rattle.bp_told.specs.Pages.{Shows, ShowsFront}
-use Rattle.bp_told.specs.Told.{Given, Waiting, ComesOf, IsTold, IsBroken, IsWritten, IsPartly, TellsOn, BreaksOff, WritesAll, WritesPart}
+use Rattle.bp_told.specs.Told.{Given, Waiting, ComesOf, IsTold, IsBroken, IsWritten, IsPartly, TellsOn, BreaksOff, WritesAll, WritesPart, WritesOut, NothingWaits}
 use Rattle.bp_told.specs.declared.fault.RunFault.{RunFault}
 use Rattle.bp_told.specs.declared.fault.RunFault.TheVariants.{LogWrite}
 use Rattle.bp_told.proofs.Logging.{log_on, log_more_on, log_more_front, log_front_on, log_stop, log_waits, log_waits_on, log_holds_shown, log_let_go, log_written, log_written_front_part}
@@ -234,6 +234,14 @@ module _ {L T E : Type 0} (written : L → Option (List ℕ)) (old new : Given L
       ((new.printed ≡ old.printed) ⊎ LogGets written old.log a.records new.log) → OnOk r (WritesAll written old a new b)
   writes_all (Ok v) f g s e k h = λ text head first rs lines t. flushed written text head first old new a b rs lines t f g s e k h
   writes_all (Err x) f g s e k h = tt
+
+  pub writes_out : (r : Result T E) → OnOk r (Appends old.printed a.lines new.printed) → OnOk r (LogGets written old.log a.records new.log) → OnOk r (WritesOut written old a new)
+  writes_out (Ok v) f g = (g, f)
+  writes_out (Err x) f g = tt
+
+  pub nothing_waits : (r : Result T E) → OnOk r (b.lines ≡ []) → OnOk r (b.records ≡ []) → OnOk r (NothingWaits b)
+  nothing_waits (Ok v) e f = (e, f)
+  nothing_waits (Err x) e f = tt
 
   pub writes_part : (r : Result T E) → OnOk r (Appends old.printed a.lines new.printed) → OnErr r (ShowsFront old.printed a.lines b.lines new.printed) → OnOk r (LogShows written old.log a.records b.records new.log) →
       OnErr r (LogShowsFront written old.log a.records b.records new.log) → ((new.printed ≡ old.printed) ⊎ LogGets written old.log a.records new.log) → WritesPart written old a new

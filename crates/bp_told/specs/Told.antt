@@ -18,6 +18,10 @@ pub record Waiting : Type 0 where
   pub records : List ℕ
   pub kept : ℕ
 
+-- nothing waits to be written
+abbrev pub NothingWaits : Waiting → Type 0
+NothingWaits w = (w.lines ≡ []) × (w.records ≡ [])
+
 -- what an output was given, where it tells that, and the log, where one is kept
 pub record Given (L : Type 0) : Type 0 where
   pub printed : Option (List ℕ)
@@ -111,3 +115,8 @@ WritesPart written old before new =
     → ¬ (fault ≡ LogWrite)
     → IsBroken _ written text head first old before records lines fault
     → IsPartly _ written text head first new records lines
+
+-- all that waited was written: what was for the log, and the lines
+abbrev pub WritesOut : {L : Type 0} → (L → Option (List ℕ)) → Given L → Waiting → Given L → Type 0
+WritesOut written old before new =
+    LogGets written old.log before.records new.log × Appends old.printed before.lines new.printed

@@ -66,6 +66,13 @@ impl Page {
         self.bytes.len() >= FULL
     }
 
+    /// Lets go of what waits.
+    pub(crate) fn clear(&mut self)
+        ensures { self.new ≡ [] }
+    {
+        self.bytes.clear();
+    }
+
     /// Puts a line at the end. After memory ran out a part of it, from its front, is there.
     pub(crate) fn add_line(&mut self, alloc: Global, line: &Line) -> Result<(), Memory>
         ensures added { OnOk result (self.new ≡ self.old ++ whole_line line.now) }
@@ -114,7 +121,7 @@ impl Page {
         ensures named { K.made_as out.new ≡ K.made_as out.old }
     {
         let written = write_all(out, self.bytes.as_slice());
-        self.bytes.clear();
+        self.clear();
         written
     }
 

@@ -7,7 +7,7 @@ ghost use Rattle.bp_log.specs.declared.version.Version.TheVariants.{Second};
 ghost use Rattle.bp_log.specs.Texts.{whole_line, lines_text};
 ghost use Rattle.bp_told.specs.Logging.{LogGets, LogHolds, LogShows, LogShowsFront, LogWaits, LogFails, LogStays};
 ghost use Rattle.bp_told.specs.Pages.{Shows, ShowsFront};
-ghost use Rattle.bp_told.specs.Told.{given, BeginsTelling, TellsOn, BreaksOff, WritesAll, WritesPart};
+ghost use Rattle.bp_told.specs.Told.{given, BeginsTelling, TellsOn, BreaksOff, WritesAll, WritesPart, WritesOut, NothingWaits};
 
 use crate::RunFault;
 use crate::page::Page;
@@ -67,11 +67,13 @@ impl Telling {
         })
     }
 
-    /// Writes what waits for the log. After a refusal a front of it was written.
+    /// Writes what waits for the log, and then nothing waits for it. After a refusal a front of it
+    /// was written. Nothing waits for a log that is not kept.
     fn write_records<L: Sink>(&mut self, log: &mut Option<L>) -> Result<(), RunFault>
         ensures shows { OnOk result
             (LogShows L.written log.old self.old.records self.new.records log.new) }
         ensures gets { OnOk result (LogGets L.written log.old self.old.records log.new) }
+        ensures emptied { OnOk result (self.new.records ≡ []) }
         ensures front { OnErr result
             (LogShowsFront L.written log.old self.old.records self.new.records log.new) }
         ensures fault { IfErr result (λ e. e ≡ RunFault.LogWrite) }
@@ -80,6 +82,7 @@ impl Telling {
         ensures rest { self.new ≡ record self.old { records = self.new.records } }
     {
         let Some(log) = log else {
+            self.records.clear();
             return Ok(());
         };
         match self.records.write(log) {
@@ -126,6 +129,7 @@ impl Telling {
     /// was written.
     fn write<K: Sink, L: Sink>(&mut self, out: &mut K, log: &mut Option<L>) -> Result<(), RunFault>
         ensures lines { OnOk result (self.new.lines ≡ []) }
+        ensures records { OnOk result (self.new.records ≡ []) }
         ensures shows { OnOk result
             (Shows (K.written out.old) self.old.lines self.new.lines (K.written out.new)) }
         ensures front { OnErr result
@@ -244,9 +248,9 @@ impl Telling {
         self.print(alloc, lines, out, log)
     }
 
-    /// Writes all that waits: what is for the log, and then the lines. After a refusal a front of
-    /// that was written. What was told before telling broke off, unless the log failed, may be
-    /// written too.
+    /// Writes all that waits: what is for the log, and then the lines. Then nothing waits. After a
+    /// refusal a front of that was written. What was told before telling broke off, unless the log
+    /// failed, may be written too.
     pub fn flush<K: Sink, L: Sink>(
         &mut self,
         out: &mut K,
@@ -256,6 +260,9 @@ impl Telling {
             (given K.written out.old log.old) self.old (given K.written out.new log.new) self.new) }
         ensures part { WritesPart L.written
             (given K.written out.old log.old) self.old (given K.written out.new log.new) }
+        ensures whole { OnOk result (WritesOut L.written
+            (given K.written out.old log.old) self.old (given K.written out.new log.new)) }
+        ensures nothing { OnOk result (NothingWaits self.new) }
         ensures memory { ¬ IsErrOf result RunFault.Memory }
         ensures cause { IsErrOf result RunFault.Write → Rose (K.faults out.old) (K.faults out.new) }
         ensures log_cause { IsErrOf result RunFault.LogWrite → LogFails L.faults log.old log.new }

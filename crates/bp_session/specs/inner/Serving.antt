@@ -34,6 +34,21 @@ ending_of fault.Write = Write
 ending_of fault.LogWrite = LogWrite
 ending_of fault.Memory = Memory
 
+-- Memory ran out as the run was served, or a source failed. Then the rest is told, for which memory may
+-- run out too.
+abbrev pub MayLackMemory : Result logs.Verdict Stop → Type 0
+MayLackMemory (Ok v) = ⊥
+MayLackMemory (Err (stop.Read j)) = Unit {0}
+MayLackMemory (Err (stop.Broken f)) = f ≡ fault.Memory
+MayLackMemory (Err (stop.Unwritten f)) = f ≡ fault.Memory
+
+-- telling broke off, and what waits may still be written
+abbrev pub MayStillWrite : Result logs.Verdict Stop → Type 0
+MayStillWrite (Ok v) = ⊥
+MayStillWrite (Err (stop.Read j)) = ⊥
+MayStillWrite (Err (stop.Broken f)) = ¬ (f ≡ fault.LogWrite)
+MayStillWrite (Err (stop.Unwritten f)) = ⊥
+
 -- the injector whose source failed, where that ended it
 abbrev pub broke_at : Ending → Option ℕ
 broke_at (Verdict v) = None
@@ -104,6 +119,12 @@ module _ {L : Type 0} (written : L → Option (List ℕ)) where
     pub behind : PrintsBehind written (text l o) head c.arbiter.records first.printed now.printed
         first.log now.log
 
+  -- whatever run was served, all of it was written
+  abbrev pub WritesRun : Core → Given L → Waiting → Core → Given L → Type 0
+  WritesRun before old a after new =
+      (l : Code Origin PlainSet) (o : PlainOptions) (head : List ℕ) (first : Given L)
+      → IsServing l o head first before old a → IsAllWritten l o head first after new
+
   -- a front of the records and a front of their lines were written
   pub record IsFrontWritten (l : Code Origin PlainSet) (o : PlainOptions) (head : List ℕ)
       (first : Given L) (c : Core) (now : Given L) : Type 0 where
@@ -134,12 +155,12 @@ module _ {L : Type 0} (written : L → Option (List ℕ)) where
     pub still : StillTold old a new b
     pub all : IsTrue write → WritesAll written old a new b
 
-  -- a turn or a wait stopped: what was told is told still where memory ran out, and a front of
-  -- it was written where writing failed
+  -- A turn or a wait stopped. If memory ran out, what was told is told still. If writing failed, a
+  -- front of it was written, and memory did not run out.
   abbrev pub StopsTurning : Given L → Waiting → Given L → Waiting → Stop → Type 0
   StopsTurning old a new b (stop.Read j) = ⊥
   StopsTurning old a new b (stop.Broken f) = (f ≡ fault.Memory) × StillTold old a new b
-  StopsTurning old a new b (stop.Unwritten f) = PartTold old a new
+  StopsTurning old a new b (stop.Unwritten f) = (¬ (f ≡ fault.Memory)) × PartTold old a new
 
   -- what is known of the run where serving stopped
   abbrev pub IsStopped : {S : Type 0} → Code Origin PlainSet → PlainOptions → List ℕ → Given L →
@@ -147,7 +168,8 @@ module _ {L : Type 0} (written : L → Option (List ℕ)) where
   IsStopped l o head first c now w readings (stop.Read j) =
       IsServing l o head first c now w × HasFailed readings j × (c.arbiter.phase ≡ Rest)
   IsStopped l o head first c now w readings (stop.Broken f) = IsBrokenOff l o head first c now w f
-  IsStopped l o head first c now w readings (stop.Unwritten f) = IsFrontWritten l o head first c now
+  IsStopped l o head first c now w readings (stop.Unwritten f) =
+      (¬ (f ≡ fault.Memory)) × IsFrontWritten l o head first c now
 
   abbrev pub StopsServing : {S : Type 0} → Core → Given L → Waiting → Core → Given L → Waiting →
       List (Reading S) → Stop → Type 0
@@ -155,12 +177,12 @@ module _ {L : Type 0} (written : L → Option (List ℕ)) where
       (l : Code Origin PlainSet) (o : PlainOptions) (head : List ℕ) (first : Given L)
       → IsServing l o head first before old a → IsStopped l o head first after new b readings s
 
-  -- what is known of the run once it was served: it has its verdict, and all of it is told, or
+  -- what is known of the run once it was served: it has its verdict, and all of it was written, or
   -- serving stopped
   abbrev pub IsServedTo : {S : Type 0} → Code Origin PlainSet → PlainOptions → List ℕ → Given L →
       Core → Given L → Waiting → List (Reading S) → Result logs.Verdict Stop → Type 0
   IsServedTo l o head first c now w readings (Ok v) =
-      (verdict_of c.arbiter.records ≡ Some v) × IsAllTold l o head first c now w
+      (verdict_of c.arbiter.records ≡ Some v) × IsAllWritten l o head first c now
   IsServedTo l o head first c now w readings (Err s) = IsStopped l o head first c now w readings s
 
   -- where an injector failed, the rest can be told

@@ -17,7 +17,7 @@ returns-clause-ends g c =
     let new = given_to g.K.Sink s.new.outlets in
     record {
       ends = λ l o head first h. c.ended.ensures.ends l o head first
-          (served_to g.L.Sink.written c.args.parts.now.core old c.args.parts.now.telling s.new.core new s.new.telling s.new.readings.items s.result s.ensures.verdict s.ensures.tells s.ensures.stops l o head first h);
+          (served_to g.L.Sink.written c.args.parts.now.core old c.args.parts.now.telling s.new.core new s.new.telling s.new.readings.items s.result s.ensures.verdict s.ensures.written s.ensures.stops l o head first h);
     }
 
 pub returns-clause-broke : goal.returns-clause-broke

@@ -1,15 +1,15 @@
 use Rattle.std.proofs.Common.{◌≡◌, ◌∙◌, arith, rules}
 use Rattle.bp_floor.specs.declared.phase.Phase.TheVariants.{Over}
 use Rattle.bp_session.specs.inner.Outlets.{given_to}
-use Rattle.bp_told.specs.declared.fault.RunFault.TheVariants.{Memory}
-use Rattle.bp_session.specs.declared.stop.Stop.TheVariants as stop
+use Rattle.bp_told.specs.Told.{WritesAll}
+use Rattle.bp_turns.proofs.Settled.{ok_map}
 use Rattle.bp_scope.specs.Readings.{GoesOnAs}
 use Rattle.bp_scope.proofs.Readings.{pairs_many}
-use Rattle.bp_session.specs.inner.Serving.{StopsServing}
+use Rattle.bp_session.specs.inner.Serving.{WritesRun, StopsTurning, StopsServing}
 use Rattle.bp_session.proofs.Served.{ready_on}
 use Rattle.bp_session.proofs.Hears.{heard_kept, go_none, go_both}
-use Rattle.bp_session.proofs.Causes.{writes_none, writes_lack, writes_on, stops_at}
-use Rattle.bp_session.proofs.Rounds.{from_err, rest_of, serves_none, serves_both, serves_still, tells_then, breaks_then, here_breaks, stops_then, turn_stops_then}
+use Rattle.bp_session.proofs.Causes.{writes_none, writes_on, stops_at}
+use Rattle.bp_session.proofs.Rounds.{from_err, rest_of, serves_none, serves_both, serves_still, tells_then, writes_run, breaks_then, stops_then, turn_stops_then, on_err}
 use Rattle.bp_session.proofs.serving.serve_on.Goals as goal
 
 pub loop-init : goal.loop-init
@@ -37,23 +37,31 @@ pub verdict_shown-requires : goal.verdict_shown-requires
 verdict_shown-requires g c =
     search rules
 
-pub returns-in_err-verdict_shown-clause-stops : goal.returns-in_err-verdict_shown-clause-stops
-returns-in_err-verdict_shown-clause-stops g c =
+pub returns-then-eq-clause-stops : goal.returns-then-eq-clause-stops
+returns-then-eq-clause-stops g c =
+    let first = given_to g.K.Sink c.args.outlets.now in
     let told = given_to g.K.Sink c.settle_and_tell.new.outlets in
+    let wrote = given_to g.K.Sink c.verdict_shown.new.outlets in
     let served = serves_both c.loop.invariant.serves c.in_ok-settle_and_tell.ensures.serves in
-    from_err _ _ (StopsServing g.L.Sink.written c.args.core.now (given_to g.K.Sink c.args.outlets.now) c.args.telling.now c.settle_and_tell.new.core told c.settle_and_tell.new.telling c.loop.readings.items) c.from_residual-in_err-verdict_shown.ensures.1 (breaks_then served (here_breaks g.L.Sink.written c.settle_and_tell.new.core told c.settle_and_tell.new.telling Memory))
+    on_err c.verdict_shown.result (StopsTurning g.L.Sink.written told c.settle_and_tell.new.telling wrote c.verdict_shown.new.telling)
+    (StopsServing g.L.Sink.written c.args.core.now first c.args.telling.now c.settle_and_tell.new.core wrote c.verdict_shown.new.telling c.loop.readings.items)
+    (λ s h. turn_stops_then g.L.Sink.written c.loop.readings.items c.args.core.now c.settle_and_tell.new.core first told wrote c.args.telling.now c.settle_and_tell.new.telling c.verdict_shown.new.telling s served h)
+    c.verdict_shown.ensures.stops
 
-pub returns-in_err-verdict_shown-clause-writes : goal.returns-in_err-verdict_shown-clause-writes
-returns-in_err-verdict_shown-clause-writes g c =
-    stops_at _ (stop.Broken Memory) c.from_residual-in_err-verdict_shown.ensures.1 (writes_lack (writes_on c.loop.invariant.writes c.in_ok-settle_and_tell.ensures.writes))
-
-pub returns-then-eq-clause-tells : goal.returns-then-eq-clause-tells
-returns-then-eq-clause-tells g c =
-    tells_then c.loop.invariant.serves c.in_ok-settle_and_tell.ensures.tells
+pub returns-then-eq-clause-written : goal.returns-then-eq-clause-written
+returns-then-eq-clause-written g c =
+    let first = given_to g.K.Sink c.args.outlets.now in
+    let told = given_to g.K.Sink c.settle_and_tell.new.outlets in
+    let wrote = given_to g.K.Sink c.verdict_shown.new.outlets in
+    ok_map c.verdict_shown.result (WritesAll g.L.Sink.written told c.settle_and_tell.new.telling wrote c.verdict_shown.new.telling)
+    (WritesRun g.L.Sink.written c.args.core.now first c.args.telling.now c.settle_and_tell.new.core wrote)
+    (writes_run g.L.Sink.written c.args.core.now c.settle_and_tell.new.core first told wrote c.args.telling.now c.settle_and_tell.new.telling c.verdict_shown.new.telling
+    (tells_then c.loop.invariant.serves c.in_ok-settle_and_tell.ensures.tells))
+    c.verdict_shown.ensures.all
 
 pub returns-then-eq-clause-writes : goal.returns-then-eq-clause-writes
 returns-then-eq-clause-writes g c =
-    writes_on c.loop.invariant.writes c.in_ok-settle_and_tell.ensures.writes
+    writes_on (writes_on c.loop.invariant.writes c.in_ok-settle_and_tell.ensures.writes) c.verdict_shown.ensures.writes
 
 pub returns-in_err-write_where-clause-stops : goal.returns-in_err-write_where-clause-stops
 returns-in_err-write_where-clause-stops g c =
@@ -123,13 +131,6 @@ loop-preserved g c =
 
 pub returns-in_err-settle_and_tell-clause-hears : goal.returns-in_err-settle_and_tell-clause-hears
 returns-in_err-settle_and_tell-clause-hears g c =
-    record {
-      heard = heard_kept c.loop.core.arbiter.records c.settle_and_tell.new.core.arbiter.records c.loop.readings.items c.settle_and_tell.ensures.items c.loop.invariant.hears.heard;
-      goes_on = c.loop.invariant.hears.goes_on;
-    }
-
-pub returns-in_err-verdict_shown-clause-hears : goal.returns-in_err-verdict_shown-clause-hears
-returns-in_err-verdict_shown-clause-hears g c =
     record {
       heard = heard_kept c.loop.core.arbiter.records c.settle_and_tell.new.core.arbiter.records c.loop.readings.items c.settle_and_tell.ensures.items c.loop.invariant.hears.heard;
       goes_on = c.loop.invariant.hears.goes_on;
