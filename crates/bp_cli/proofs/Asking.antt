@@ -14,8 +14,8 @@ use Rattle.bp_cli.specs.declared.conclusion.Conclusion.{Conclusion}
 use Rattle.bp_cli.specs.declared.conclusion.Conclusion.TheVariants.{Refused, Ran, NotRead, NotWritten, NoMemory}
 use Rattle.bp_cli.specs.Outside.{Outside}
 use Rattle.bp_cli.specs.Asking.{names_of, WasAsked, AsksFor, AsksIn}
-use Rattle.bp_cli.specs.Conclusions.{unopened_of, unmade_of}
-use Rattle.bp_cli.specs.Loading.{IsUnloaded}
+use Rattle.bp_cli.specs.inner.Outcomes.{unopened_of, unmade_of}
+use Rattle.bp_cli.specs.inner.Unloaded.{IsUnloaded}
 use Rattle.bp_cli.specs.Runs.{RunEnds}
 
 -- ---- fronts of names

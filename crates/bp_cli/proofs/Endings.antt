@@ -23,11 +23,12 @@ use Rattle.bp_cli.specs.declared.conclusion.Conclusion.{Conclusion}
 use Rattle.bp_cli.specs.declared.conclusion.Conclusion.TheVariants.{NoCommand, Refused, Accepted, Ran, NotRead, NotWritten, NoMemory, BadLog, Migrated}
 use Rattle.bp_cli.specs.Outside.{Outside, WriteFailed, NeverFalls, IsAsBefore, IsUnder}
 use Rattle.bp_cli.specs.Texts.{accepted_line, LineEnds}
-use Rattle.bp_cli.specs.Conclusions.{has_note, IsStatusOf, unmade_of}
+use Rattle.bp_cli.specs.Conclusions.{IsStatusOf}
+use Rattle.bp_cli.specs.inner.Outcomes.{has_note, unmade_of}
 use Rattle.bp_cli.specs.Asking.{AsksIn}
 use Rattle.bp_cli.specs.Endings.{IsCaused, Does, EndsIn, Ends}
 use Rattle.bp_cli.specs.Large.{Measures}
-use Rattle.bp_cli.specs.Loading.{IsUnloaded}
+use Rattle.bp_cli.specs.inner.Unloaded.{IsUnloaded}
 use Rattle.bp_cli.specs.inner.Opening.{AreOpened}
 use Rattle.bp_cli.specs.Runs.{Holds, KeepsLog, KeepsLogFront, TellsWhole, TellsPartly, RunEnds, IsRunOf, header_of}
 use Rattle.bp_cli.proofs.Asking.{asks_some}

@@ -18,8 +18,9 @@ use Rattle.bp_session.specs.Reports.{EndsAs}
 use Rattle.bp_session.specs.declared.report.Ending.{Ending}
 use Rattle.bp_cli.specs.declared.conclusion.Conclusion.{Conclusion}
 use Rattle.bp_cli.specs.declared.conclusion.Conclusion.TheVariants.{NoMemory}
-use Rattle.bp_cli.specs.Conclusions.{ended_of}
-use Rattle.bp_cli.specs.Large.{large_line, line_of, IsOneRun, IsPrintedWhole, Measures}
+use Rattle.bp_cli.specs.inner.Outcomes.{ended_of}
+use Rattle.bp_cli.specs.Large.{large_line, line_of, IsOneRun, Measures}
+use Rattle.bp_cli.specs.inner.Measured.{IsPrintedWhole}
 use Rattle.bp_cli.specs.Outside.{Outside}
 use Rattle.bp_cli.specs.Texts.{LineEnds}
 use Rattle.bp_cli.proofs.Runs.{begins_run, is_run}

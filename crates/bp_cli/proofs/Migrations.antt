@@ -14,7 +14,7 @@ use Rattle.bp_args.specs.declared.command.Command.TheVariants as command
 use Rattle.bp_cli.specs.declared.conclusion.Conclusion.{Conclusion}
 use Rattle.bp_cli.specs.declared.conclusion.Conclusion.TheVariants.{NoMemory}
 use Rattle.bp_cli.specs.Outside.{Outside, ReadFailed, WriteFailed, IsAsBefore}
-use Rattle.bp_cli.specs.Conclusions.{unopened_of}
+use Rattle.bp_cli.specs.inner.Outcomes.{unopened_of}
 use Rattle.bp_cli.specs.Endings.{IsCaused, EndsIn}
 use Rattle.bp_cli.specs.Migrating.{MigratesTo, IsJudged, migrated_of}
 use Rattle.bp_cli.proofs.Replays.{front_of, told_under}

@@ -16,10 +16,12 @@ use Rattle.bp_args.specs.declared.command.Run.{Run}
 use Rattle.bp_cli.specs.declared.conclusion.Conclusion.{Conclusion}
 use Rattle.bp_cli.specs.declared.conclusion.Conclusion.TheVariants.{Refused, Accepted, Ran, NotRead, NotWritten, NoMemory}
 use Rattle.bp_cli.specs.Outside.{Outside, IsUnder}
-use Rattle.bp_cli.specs.Conclusions.{code_of, conclusion_of}
+use Rattle.bp_cli.specs.Conclusions.{code_of}
+use Rattle.bp_cli.specs.inner.Outcomes.{conclusion_of}
 use Rattle.bp_cli.specs.Endings.{Does, EndsIn, Ends}
-use Rattle.bp_cli.specs.Loading.{IsUnloaded}
-use Rattle.bp_cli.specs.Refusing.{IsTooLong, program_of, Refuses}
+use Rattle.bp_cli.specs.inner.Unloaded.{IsUnloaded}
+use Rattle.bp_cli.specs.Refusing.{program_of, Refuses}
+use Rattle.bp_cli.specs.inner.Unloaded.{IsTooLong}
 
 -- ---- too long
 

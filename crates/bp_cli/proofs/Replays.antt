@@ -13,7 +13,7 @@ use Rattle.bp_cli.specs.declared.conclusion.Conclusion.TheVariants.{NoMemory}
 use Rattle.bp_cli.specs.Outside.{Outside, ReadFailed, WriteFailed, IsAsBefore}
 use Rattle.bp_base.specs.declared.outside.WorldError.{WorldError}
 use Rattle.bp_args.specs.declared.command.Command.TheVariants as command
-use Rattle.bp_cli.specs.Conclusions.{unopened_of}
+use Rattle.bp_cli.specs.inner.Outcomes.{unopened_of}
 use Rattle.bp_cli.specs.Endings.{IsCaused, EndsIn}
 use Rattle.bp_cli.specs.Replaying.{ReplaysTo, replayed_of}
 

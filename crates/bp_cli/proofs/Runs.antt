@@ -32,7 +32,7 @@ use Rattle.bp_replay.specs.Laws.{Retells}
 use Rattle.bp_replay.proofs.RunLogs.{logs_of_stories_replay}
 use Rattle.bp_args.specs.declared.command.Run.{Run}
 use Rattle.bp_cli.specs.declared.conclusion.Conclusion.{Conclusion}
-use Rattle.bp_cli.specs.Conclusions.{ended_of}
+use Rattle.bp_cli.specs.inner.Outcomes.{ended_of}
 use Rattle.bp_cli.specs.Endings.{IsCaused}
 use Rattle.bp_cli.specs.inner.Opening.{AreOpened, IsLogMade, IsLogNamed, IsLogHeld}
 use Rattle.bp_cli.specs.Outside.{Outside, ReadFailed, WriteFailed}

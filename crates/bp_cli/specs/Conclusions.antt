@@ -1,13 +1,10 @@
 -- How a command ends: the code and the note of each conclusion.
-use Rattle.std.specs.Prelude.{◌≡◌, ℕ, Bool, true, false, List, [], codes}
-use Rattle.bp_base.specs.declared.outside.WorldError.{WorldError}
+use Rattle.std.specs.Prelude.{◌≡◌, ℕ, List, [], codes}
 use Rattle.bp_log.specs.Verdicts.{kind_of}
 use Rattle.bp_log.specs.declared.verdict.VerdictKind.{VerdictKind}
 use Rattle.bp_log.specs.declared.verdict.VerdictKind.TheVariants as kind
 use Rattle.bp_notes.specs.Notes.{bad_log_note}
 use Rattle.bp_script.specs.Refusals as refusals
-use Rattle.bp_script.specs.declared.reading.ScriptFault.{ScriptFault}
-use Rattle.bp_session.specs.declared.report.Ending.{Ending}
 use Rattle.bp_cli.specs.declared.conclusion.Conclusion.{Conclusion}
 use Rattle.bp_cli.specs.declared.conclusion.Conclusion.TheVariants.{NoCommand, Refused, Accepted, Ran, NotRead, NotWritten, NoMemory, BadLog, Migrated}
 
@@ -43,37 +40,6 @@ note_of NotWritten = codes "write fault"
 note_of (BadLog fault) = bad_log_note fault
 note_of _ = []
 
--- whether something is noted
-abbrev pub has_note : Conclusion → Bool
-has_note NoCommand = true
-has_note (Refused refusal) = true
-has_note NotRead = true
-has_note NotWritten = true
-has_note (BadLog fault) = true
-has_note _ = false
-
 -- the code and the note are those of the conclusion
 abbrev pub IsStatusOf : ℕ → List ℕ → Conclusion → Type 0
 IsStatusOf code note conclusion = (code ≡ code_of conclusion) × (note ≡ note_of conclusion)
-
--- what comes of a session
-abbrev pub ended_of : Ending → Conclusion
-ended_of (Ending.Verdict verdict) = Ran verdict
-ended_of (Ending.Read injector) = NotRead
-ended_of Ending.Write = NotWritten
-ended_of Ending.LogWrite = NotWritten
-ended_of Ending.Memory = NoMemory
-
--- what comes of an input that was not opened, and of a log that was not made
-abbrev pub unopened_of : WorldError → Conclusion
-unopened_of WorldError.Failed = NotRead
-unopened_of WorldError.Memory = NoMemory
-
-abbrev pub unmade_of : WorldError → Conclusion
-unmade_of WorldError.Failed = NotWritten
-unmade_of WorldError.Memory = NoMemory
-
--- what comes of a program that is not accepted
-abbrev pub conclusion_of : ScriptFault → Conclusion
-conclusion_of (ScriptFault.Refused refusal) = Refused refusal
-conclusion_of ScriptFault.Memory = NoMemory

@@ -8,7 +8,7 @@ use Rattle.bp_cli.specs.declared.conclusion.Conclusion.TheVariants.{NoCommand, R
 use Rattle.bp_cli.specs.Outside.{Outside, ReadFailed, WriteFailed, IsAsBefore, IsUnder}
 use Rattle.bp_cli.specs.Texts.{SaysAccepted}
 use Rattle.bp_cli.specs.Runs.{IsRunOf}
-use Rattle.bp_cli.specs.Loading.{IsRefusedUnder}
+use Rattle.bp_cli.specs.Refusing.{IsRefusedUnder}
 use Rattle.bp_cli.specs.Large.{Measures}
 use Rattle.bp_cli.specs.Conclusions.{IsStatusOf}
 use Rattle.bp_cli.specs.Asking.{AsksIn}

@@ -35,11 +35,6 @@ IsOneRun program records (Ran v) =
     (verdict_of records ≡ Some v) × (records ≡ records_alone program default_options)
 IsOneRun program records _ = Unit {0}
 
--- the whole text of a run that came to a verdict was written
-abbrev pub IsPrintedWhole : PlainProgram → List ℕ → Conclusion → Type 0
-IsPrintedWhole program written (Ran v) = text_alone program default_options ≡ Some written
-IsPrintedWhole program written _ = Unit {0}
-
 -- How measuring the program of this many b-threads ends, which is accepted: these are the records of
 -- its run, or the first of them, and the line of the one run was printed as that ends.
 pub record Measures (n : ℕ) (records : List Record) (before after : Outside)

@@ -5,9 +5,8 @@ pub mod Runs
 pub mod Large
 pub mod Conclusions
 pub mod Asking
-pub mod Loading
+pub mod Refusing
 pub mod Replaying
 pub mod Migrating
 pub mod Endings
-pub mod Refusing
 pub mod inner

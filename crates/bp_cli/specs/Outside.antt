@@ -26,10 +26,6 @@ outside holds asked read_faults write_faults printed print_faults world out = re
   print_faults = print_faults out;
 }
 
--- the same, where this was printed, and printing failed so often
-abbrev pub printing : Outside → Option (List ℕ) → ℕ → Outside
-printing outside printed faults = record outside { printed = printed; print_faults = faults }
-
 -- reading failed in the world
 abbrev pub ReadFailed : Outside → Outside → Type 0
 ReadFailed before after = Rose before.read_faults after.read_faults

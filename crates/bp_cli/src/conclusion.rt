@@ -1,6 +1,7 @@
 //! How a command ends.
 ghost use Rattle.std.specs.Prelude.{◌≡◌, true, IfOk, OnErr, unwrap_or};
-ghost use Rattle.bp_cli.specs.Conclusions.{code_of, note_of, has_note, verdict_code, conclusion_of, ended_of, unopened_of, unmade_of};
+ghost use Rattle.bp_cli.specs.Conclusions.{code_of, note_of, verdict_code};
+ghost use Rattle.bp_cli.specs.inner.Outcomes.{has_note, conclusion_of, ended_of, unopened_of, unmade_of};
 ghost use Rattle.bp_cli.specs.Replaying.{trouble_of as trouble_in, replayed_of};
 ghost use Rattle.bp_cli.specs.Migrating.{as_replayed, migrated_of};
 
@@ -68,7 +69,7 @@ impl Drop for Conclusion {
 
 impl From<ScriptFault> for Conclusion {
     ghost use Rattle.std.specs.Prelude.{◌≡◌};
-    ghost use Rattle.bp_cli.specs.Conclusions.{conclusion_of};
+    ghost use Rattle.bp_cli.specs.inner.Outcomes.{conclusion_of};
 
     ghost from_gives = { λ f c. c ≡ conclusion_of f };
 

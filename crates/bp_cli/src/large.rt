@@ -4,10 +4,12 @@ ghost use mathlib.Core.List.{IsPrefix};
 ghost use Rattle.bp_code.specs.Code.{records_alone, text_alone};
 ghost use Rattle.bp_log.specs.Options.{default_options};
 ghost use Rattle.bp_args.specs.declared.command.Command.TheVariants as command;
-ghost use Rattle.bp_cli.specs.Conclusions.{ended_of};
+ghost use Rattle.bp_cli.specs.inner.Outcomes.{ended_of};
 ghost use Rattle.bp_cli.specs.Endings.{EndsIn};
-ghost use Rattle.bp_cli.specs.Large.{is_selection as selects, large_line, IsOneRun, IsPrintedWhole};
-ghost use Rattle.bp_cli.specs.Outside.{Outside, printing};
+ghost use Rattle.bp_cli.specs.Large.{is_selection as selects, large_line, IsOneRun};
+ghost use Rattle.bp_cli.specs.inner.Measured.{IsPrintedWhole};
+ghost use Rattle.bp_cli.specs.Outside.{Outside};
+ghost use Rattle.bp_cli.specs.inner.Measured.{printing};
 
 use crate::conclusion::Conclusion;
 use crate::ended::Ended;

@@ -1,6 +1,7 @@
 //! What a command leaves to the system.
 ghost use Rattle.std.specs.Prelude.{◌≡◌, ◌⊎◌, true};
-ghost use Rattle.bp_cli.specs.Conclusions.{has_note, IsStatusOf};
+ghost use Rattle.bp_cli.specs.Conclusions.{IsStatusOf};
+ghost use Rattle.bp_cli.specs.inner.Outcomes.{has_note};
 
 use crate::conclusion::Conclusion;
 use crate::ended::Ended;
