@@ -5,7 +5,7 @@
 //! Names are those of events. A set is an event's name, `-` for none, `0` for one that is not stated,
 //! `*` for all, or `!` for one whose predicate answers no truth value. `NUMBER: ended` takes away
 //! what a b-thread states.
-ghost use Rattle.std.specs.Prelude.{ℕ, ◌≤◌, length, IfOk};
+ghost use Rattle.std.specs.Prelude.{ℕ, ◌≤◌, length};
 ghost use Rattle.js_meaning.specs.State.{Ground as Base};
 ghost use Rattle.bp_select.specs.Benches.{Fits};
 
@@ -88,14 +88,15 @@ fn place(alloc: Global, made: &mut Bench, line: &str) -> Result<(), Fail>
     Ok(())
 }
 
-fn bench(alloc: Global, lines: &str) -> Result<Bench, Fail>
-    ensures { (base : Base) (budget : ℕ) → IfOk result (λ made. Fits made base budget) }
+/// Each of the lines is placed.
+fn place_all(alloc: Global, made: &mut Bench, lines: &str) -> Result<(), Fail>
+    ensures { (base : Base) (budget : ℕ) →
+        Fits made.old base budget → Fits made.new base budget }
 {
-    let mut made = Bench::new(alloc);
     for line in lines.split("/") {
-        place(alloc, &mut made, line)?;
+        place(alloc, made, line)?;
     }
-    Ok(made)
+    Ok(())
 }
 
 fn told(alloc: Global, fault: &SelectFault) -> Result<String, Fail> {
@@ -205,12 +206,19 @@ fn answer(alloc: Global, question: &str, made: &mut Bench, events: &[Event]) -> 
     }
 }
 
-/// Whether the bench answers what is wanted.
-pub fn bench_holds(alloc: Global, cell: &str, want: &str) -> Result<bool, Fail> {
+fn answers(alloc: Global, made: &mut Bench, cell: &str, want: &str) -> Result<bool, Fail>
+    requires { (base : Base) (budget : ℕ) → Fits made.old base budget }
+{
     let (question, rest) = cell.split_once("|").ok_or("no statements")?;
     let (stated, names) = rest.split_once("|").ok_or("no events")?;
-    let mut made = bench(alloc, stated)?;
+    place_all(alloc, made, stated)?;
     let events = events(alloc, names)?;
-    let said = answer(alloc, question.trim(), &mut made, events.as_slice())?;
+    let said = answer(alloc, question.trim(), made, events.as_slice())?;
     Ok(said.as_str() == want)
+}
+
+/// Whether a bench answers what is wanted. It stands in a function that ends in one place alone, since
+/// at each end it is proved anew that the bench may be dropped.
+pub fn bench_holds(alloc: Global, cell: &str, want: &str) -> Result<bool, Fail> {
+    answers(alloc, &mut Bench::new(alloc), cell, want)
 }
