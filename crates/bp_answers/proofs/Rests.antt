@@ -25,7 +25,7 @@ use Rattle.bp_meaning.specs.Statements.{statement_of}
 use Rattle.bp_thread.specs.Jobs.{stop_line}
 use Rattle.bp_thread.specs.Views.{plain_statement}
 use Rattle.bp_code.specs.Code.{code_of, ground_for, sealed_code_of}
-use Rattle.bp_floor.specs.inner.Stops.{Stop as Stood, stop_with, stop_in, line_after}
+use Rattle.bp_floor.specs.Stops.{Stop as Stood, stop_with, stop_in, line_after}
 use Rattle.bp_floor.specs.Forgetting.{forget}
 use Rattle.bp_floor.specs.Floors.{PlainFloor, IsPhased, has_on, is_idle, live_on, not_lent, phase_at}
 use Rattle.bp_floor.specs.Returns.{ground_at}

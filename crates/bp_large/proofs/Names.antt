@@ -3,7 +3,7 @@ use Rattle.std.proofs.Common.{◌≡◌, ℕ, zero, suc, ◌<◌, ◌≤◌, fal
 use Rattle.js_lexer.specs.declared.token.Token.{Token}
 use Rattle.js_tree.specs.Plain.{PlainItem}
 use Rattle.js_grammar.specs.Statements as stmts
-use Rattle.js_grammar.specs.Reading.{Found, turns, run}
+use Rattle.js_grammar.specs.Reading.{Found, iterations, run}
 use Rattle.js_grammar.specs.Reader.{readers}
 use Rattle.js_grammar.specs.Unsupported.{first_unsupported}
 use Rattle.js_grammar.specs.Sorts.{sort, named, numbered, quoted, member_word, key}
@@ -40,7 +40,7 @@ is_read size v supported is named = record { tree = tree_of size v; supported = 
 
 -- a number of this many digits
 pub reads : (size : ℕ) → 0 < size → size ≤ 10 → (v : ℕ) → IsRead (tokens size v)
-unfolding program_scope function_scope block_scope for_three_scope list_scope for_of_scope expr_mentions form_mentions exprs_mentions fields_mentions perhaps_mentions declarators_mentions start_mentions stmt_mentions stmt_form_mentions stmts_mentions item_mentions unresolved_mentions found found_var functions_of repeated blocked look_up mentions assigned_in holdings slots_of slot_count fault_at name_fault tokens_before tokens_behind tokens sort named numbered quoted member_word key operator_at sign step assign_op declares lexical is_of readers turns run
+unfolding program_scope function_scope block_scope for_three_scope list_scope for_of_scope expr_mentions form_mentions exprs_mentions fields_mentions perhaps_mentions declarators_mentions start_mentions stmt_mentions stmt_form_mentions stmts_mentions item_mentions unresolved_mentions found found_var functions_of repeated blocked look_up mentions assigned_in holdings slots_of slot_count fault_at name_fault tokens_before tokens_behind tokens sort named numbered quoted member_word key operator_at sign step assign_op declares lexical is_of readers iterations run
 reads zero h l v = absurd (omega (arith, h))
 reads (suc zero) h l v = is_read 1 v refl refl refl
 reads (suc (suc zero)) h l v = is_read 2 v refl refl refl

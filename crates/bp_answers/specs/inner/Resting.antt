@@ -9,7 +9,7 @@ use Rattle.bp_run.specs.Bodies.{Statement}
 use Rattle.bp_run.specs.Configuration.{Thread, Configuration}
 use Rattle.bp_thread.specs.Views.{plain_statement}
 use Rattle.bp_code.specs.Code.{code_of}
-use Rattle.bp_floor.specs.inner.Stops.{Stop as Stood, stop_in}
+use Rattle.bp_floor.specs.Stops.{Stop as Stood, stop_in}
 use Rattle.bp_arbiter.specs.Arbiters.{PlainArbiter, Recounts, options_in}
 use Rattle.bp_explain.specs.declared.stops.Stop.{Stop}
 use Rattle.bp_explain.specs.Explained.{words_of}
