@@ -3,14 +3,21 @@
 # and system, of proofs, of tests and of edits, with the commit and the date.
 #     sh docs/gate.sh              the whole gate (`rt ci`); what it prints goes to standard error
 #     sh docs/gate.sh rt ci NAME   another command
+#     SEEN=FOLDER sh docs/gate.sh  keeps what it saw in that folder, and a later run with the same folder adds to it: the table of a
+#                                  gate that was made in several runs on one machine, whose commit is that of the last
 # It looks at the processes of the command twice a second. What a process takes after its last look is lost, at most half a
 # second each, so the sums are a little below `times`, which it prints beside them and which counts the looks too.
 top=$(cd "$(dirname "$0")/.." && pwd) || exit 1
 [ $# -eq 0 ] && cd "$top" && set -- rt ci
-seen=$(mktemp -d) || exit 1
-trap 'rm -rf "$seen"' EXIT
-: > "$seen/names"
-: > "$seen/looks"
+if [ -n "$SEEN" ]; then
+    seen=$SEEN
+    mkdir -p "$seen" || exit 1
+else
+    seen=$(mktemp -d) || exit 1
+    trap 'rm -rf "$seen"' EXIT
+fi
+: >> "$seen/names"
+: >> "$seen/looks"
 
 "$@" >&2 &
 gate=$!
