@@ -1,10 +1,16 @@
 -- Rounds of a session, and where they stop.
 use Rattle.std.proofs.Common.{◌≡◌, inl, inr, ℕ, Bool, true, false, List, take, drop, ap, sym, subst, ◌∙◌, take-append-drop, Option, Some}
-use Rattle.std.specs.Prelude.{Result, Ok, Err, OnOk, IfErr, IsErrAnd, option_map}
+use Rattle.std.specs.Prelude.{Result, Ok, Err, OnOk, IfErr, IsErrAnd, length, nat_lt, option_map}
+use Rattle.std.proofs.lemmas.List.{append_cancel_left}
+use Rattle.bp_log.specs.declared.record.Record.{Record}
+use Rattle.bp_log.specs.declared.trace.Line.{Line}
 use Rattle.bp_run.specs.Text.{text}
+use Rattle.bp_steps.specs.Steps.{pair_at}
 use Rattle.bp_floor.specs.declared.phase.Phase.{Phase}
 use Rattle.bp_floor.specs.declared.phase.Phase.TheVariants.{Rest, Over}
 use Rattle.bp_floor.specs.Floors.{is_idle}
+use Rattle.bp_arbiter.specs.Arbiters.{stand_in}
+use Rattle.bp_arbiter.proofs.Told.{pair_lines}
 use Rattle.bp_core.specs.declared.stepping.Core.{Core}
 use Rattle.bp_core.specs.Cores.{KeepsProgram}
 use Rattle.bp_told.specs.Told.{Given, Waiting, IsTold, WritesAll}
@@ -16,9 +22,9 @@ use Rattle.bp_scope.specs.declared.reading.Reading.{Reading}
 use Rattle.bp_session.specs.declared.stop.Stop.{Stop}
 use Rattle.bp_session.specs.declared.stop.Stop.TheVariants as stop
 use Rattle.bp_session.specs.inner.Hearing.{HearsOn, StopsHearing}
-use Rattle.bp_session.specs.inner.Serving.{IsReady, TellsAll, WritesRun, ServesOn, BreaksServing, StillTold, IsToldStill, StopsTurning, StopsServing, LeadsOn, CutsAt, KeepsItems}
+use Rattle.bp_session.specs.inner.Serving.{IsReady, TellsAll, WritesRun, ServesOn, BreaksServing, StillTold, IsToldStill, StopsTurning, StopsServing, LeadsOn, CutsAt, KeepsItems, NothingUntold, StaysThere}
 use Rattle.bp_session.proofs.Served.{serving_on, cut_off, stop_here, some_text, here_tells, ready_somewhere, ready_on}
-use Rattle.bp_session.proofs.Hears.{heard_kept}
+use Rattle.bp_session.proofs.Hears.{heard_kept, no_longer}
 use Rattle.bp_session.proofs.Tells.{write_still}
 use Rattle.bp_session.proofs.Ends.{all_written}
 
@@ -169,3 +175,37 @@ heard_somewhere {written = written} {a = a} {b = b} {now = now} {w = w} r h = re
 pub picked_heard : {L S : Type 0} {written : L → Option (List ℕ)} {a b : Core} {now : Given L} {w : Waiting} (d : Core) (readings : List (Reading S)) → IsReady written a now w → HearsOn a b →
     (IsSomewhereHere b → KeepsItems b.arbiter.records d.arbiter.records) → AreHeard (λ (r : Reading S). r.hearing) b.arbiter.records readings → AreHeard (λ (r : Reading S). r.hearing) d.arbiter.records readings
 picked_heard {b = b} d readings r h k = heard_kept b.arbiter.records d.arbiter.records readings (k (heard_somewhere r h))
+
+-- ---- where nothing entered
+
+-- injectors were heard, nothing entered, and so nothing was recorded
+pub none_heard : {a b : Core} {heard : Bool} → HearsOn a b → heard ≡ nat_lt (length a.arbiter.records) (length b.arbiter.records) → heard ≡ false → b.arbiter.records ≡ a.arbiter.records
+none_heard {a = a} {b = b} h some none = no_longer a b h (sym some ∙ none)
+
+pub somewhere_ready : {L : Type 0} {written : L → Option (List ℕ)} {c : Core} {now : Given L} {w : Waiting} → IsReady written c now w → IsSomewhereHere c
+somewhere_ready {written = written} {c = c} {now = now} {w = w} r = ready_somewhere written c now w r
+
+-- ---- what is untold
+
+-- a core that is where it was has as many records as it had, and the same lines to take
+untold_there : (a b : Core) (w : Waiting) → StaysThere a b → IsSomewhereHere a → NothingUntold a w → NothingUntold b w
+untold_there a b w s h n =
+    let at = ((h.here).at).at in
+    let then = ((s h.taken h.moment h.here).at).at in
+    let same : b.arbiter.records ≡ a.arbiter.records = then.records ∙ sym at.records in
+    let before = pair_lines a.arbiter.floor a.jobs.items h.taken (pair_at h.moment) (at.stands).floor in
+    let after = pair_lines b.arbiter.floor b.jobs.items h.taken (pair_at h.moment) (then.stands).floor in
+    record {
+      records = n.records ∙ ap (λ (rs : List Record). length rs) (sym same);
+      lines = ap (λ (ls : List Line). length ls) (append_cancel_left h.taken (stand_in b.arbiter).lines (stand_in a.arbiter).lines (sym after ∙ before)) ∙ n.lines;
+    }
+
+pub untold_kept : (c : Core) (w v : Waiting) → v.kept ≡ w.kept → NothingUntold c w → NothingUntold c v
+untold_kept c w v e n = record { records = e ∙ n.records; lines = n.lines }
+
+-- nothing entered, and a run that waits is where it was
+pub untold_waits : {L : Type 0} {written : L → Option (List ℕ)} {a b d : Core} {now : Given L} {w : Waiting} {heard : Bool} → IsReady written a now w → HearsOn a b
+    → heard ≡ nat_lt (length a.arbiter.records) (length b.arbiter.records) → heard ≡ false → StaysThere b d → NothingUntold a w → NothingUntold d w
+untold_waits {written = written} {a = a} {b = b} {d = d} {now = now} {w = w} r h some none s n =
+    let still = h.still (none_heard h some none) in
+    untold_there b d w s (heard_somewhere r h) (untold_there a b w still (somewhere_ready r) n)

@@ -1,5 +1,5 @@
 -- A run that waits.
-use Rattle.std.proofs.Common.{◌≡◌, Bool, true, false, List, refl, ap, sym, ◌∙◌, Some, None, if◌then◌else◌}
+use Rattle.std.proofs.Common.{◌≡◌, Bool, true, false, List, refl, ap, sym, subst, ◌∙◌, Some, None, if◌then◌else◌}
 use Rattle.std.specs.Prelude.{Result, Ok, Err, IfOk, OnOk, is_none}
 use Rattle.std.proofs.lemmas.Bool.{and_parts}
 use Rattle.js_value.specs.Value.{PlainSet}
@@ -14,7 +14,7 @@ use Rattle.bp_run.specs.Story.Next.{Ends, Selects, Waits}
 use Rattle.bp_run.proofs.Turns.{settle-rest}
 use Rattle.bp_run.proofs.Waiting.{only_waiting_runs_wait}
 use Rattle.bp_steps.specs.declared.step.CoreStep.TheVariants.{Pick}
-use Rattle.bp_steps.specs.Steps.{Moment, pair_at, is_resting, picked, settled, after_step}
+use Rattle.bp_steps.specs.Steps.{Moment, pair_at, lends, is_resting, picked, settled, after_step}
 use Rattle.bp_arbiter.specs.declared.picked.Picked.{Picked}
 use Rattle.bp_arbiter.specs.declared.picked.Picked.TheVariants.{Wait}
 use Rattle.bp_arbiter.specs.Arbiters.{PlainArbiter, code_in, options_in, coming}
@@ -24,6 +24,7 @@ use Rattle.bp_core.specs.Cores.{IsCoreAt, Makes, KeepsProgram}
 use Rattle.bp_core.specs.Moments.{step_on}
 use Rattle.bp_turns.specs.Settled.{IsSomewhereHere}
 use Rattle.bp_turns.proofs.Arbiters.{same_code, coming_at}
+use Rattle.bp_session.specs.inner.Serving.{StaysThere}
 use Rattle.bp_session.specs.inner.Turning.{IsWaiting}
 use Rattle.bp_session.proofs.Picked.{pick_next}
 
@@ -74,6 +75,22 @@ module _ (old new : Core) (p : KeepsProgram old.arbiter new.arbiter) where
             let here : d ≡ m.told = same_some d (settled (code_in b) t.next) (sym h ∙ ((t.at).at).told) ∙ told in
             coming_at (code_in a) (options_in a) b d (same_code a b p.program p.options) p.options ∙ ap (λ (c : Configuration Origin). coming a c) here ∙ waits;
       }
+
+  -- and the core is there still
+  pick_stays : (k : Picked) → Makes old new Pick → Foretells old k → k ≡ Wait → StaysThere old new
+  pick_stays k s is h taken m w =
+      let a = old.arbiter in
+      let waits : coming a m.told ≡ Waits = waits_of (coming a m.told) (sym (is taken m w.at) ∙ h) in
+      let t = s taken m w.at in
+      let same : t.next ≡ m = pick_next a m t.next t.leads ∙ ap (λ (x : Next). picked (code_in a) m x) waits in
+      record {
+        at = subst (λ (n : Moment Origin). IsCoreAt new new.jobs.items taken n) same t.at;
+        unbegun = w.unbegun ∙ ap (λ (l : Code Origin PlainSet). lends l (pair_at m)) (sym (same_code a new.arbiter p.program p.options));
+      }
+
+  pub stays_where : {E : Type 0} (r : Result Picked E) → OnOk r (Makes old new Pick) → IfOk r (Foretells old) → IfOk r (λ k. k ≡ Wait → StaysThere old new)
+  stays_where (Ok k) s is = pick_stays k s is
+  stays_where (Err e) s is = tt
 
   pub waits_where : {E : Type 0} (r : Result Picked E) → OnOk r (Makes old new Pick) → IfOk r (Foretells old) → IfOk r (λ k. IsSomewhereHere old → k ≡ Wait → IsWaiting new)
   waits_where (Ok k) s is = λ w h. pick_waits k s is w h

@@ -1,11 +1,13 @@
 //! How a session is woken by its injectors, and wakes them.
+ghost use Rattle.bp_session.specs.inner.Turning.{IsWaiting};
+
 use crate::written::Written;
 use bp_lanes::{Bell, Rope, Wake};
 use std::sync::Wait;
 use std::thread::Threads;
 
 /// After this many items entered the injectors are woken. A lane has room for as many, and an injector waits
-/// only if its lane is full: so it is woken at the latest when its lane was emptied.
+/// only if its lane is full: so it is woken at the latest when as many items entered as its lane holds.
 const ENOUGH: usize = 64;
 
 /// The rope by which a session and its injectors wake one another, and how many items entered since it was
@@ -32,7 +34,10 @@ impl<'a> Calls<'a> {
     }
 
     /// Waits until an injector rings.
-    pub(crate) fn wait<R: Threads + Wait + Sync>(&mut self, rt: &R, _written: Written<'_>) {
+    pub(crate) fn wait<R: Threads + Wait + Sync>(&mut self, rt: &R, written: Written<'_>)
+        requires waiting { IsWaiting written.core.now }
+    {
+        let _ = written;
         self.rope.wait(rt);
     }
 

@@ -7,7 +7,7 @@ ghost use Rattle.bp_run.specs.Bodies.{Code};
 ghost use Rattle.bp_floor.specs.declared.phase.Phase.TheVariants as phase;
 ghost use Rattle.bp_hear.specs.Hearings.{AreHeard};
 ghost use Rattle.bp_scope.specs.Readings.{Pairs, IsHeld, GoesOnAs, HasFailed, AreBack};
-ghost use Rattle.bp_told.specs.Told.{Given, given};
+ghost use Rattle.bp_told.specs.Told.{Given, given, WritesOut};
 ghost use Rattle.bp_session.specs.inner.Hearing.{HearOn, CanServe};
 ghost use Rattle.bp_session.specs.inner.Outlets.{given_to, served_fault, ended_fault, WritesOn, WritesTo, WritesRest};
 ghost use Rattle.bp_session.specs.inner.Serving.{IsReady, IsServing, IsBrokenOff, IsServedTo, CanTellRest, IsEnded, EndsServing, MayLackMemory, MayStillWrite, ending_of, broke_at};
@@ -40,7 +40,7 @@ fn ending_of(fault: RunFault) -> Ending
     }
 }
 
-/// Telling broke off: what waits is written, unless the log failed.
+/// Serving broke off: what waits is written, unless the log had failed or writing fails.
 fn write_front<K: Sink, L: Sink>(
     fault: RunFault,
     telling: &mut Telling,
@@ -52,6 +52,8 @@ fn write_front<K: Sink, L: Sink>(
         IsEnded L.written l o head first c (given_to K.Sink outlets.new) result }
     ensures broke { broke_at result ≡ None }
     ensures memory { result ≡ Ending.Memory → fault ≡ RunFault.Memory }
+    ensures whole { result ≡ Ending.Memory → WritesOut L.written (given_to K.Sink outlets.old)
+        telling.old (given_to K.Sink outlets.new) }
     ensures rest { ¬ (fault ≡ RunFault.LogWrite) →
         WritesRest K.Sink L.Sink outlets.old telling.old outlets.new }
     ensures writes { (first : Outlets K L) →
@@ -95,7 +97,8 @@ fn write_read<K: Sink, L: Sink>(
     }
 }
 
-/// How serving ended. What was told of the run is written, unless that failed.
+/// How serving ended. What was told is written, unless the output or the log failed; after a source failed the
+/// rest of the run is told first.
 fn ended<S: Source, K: Sink, L: Sink>(
     alloc: Global,
     served: Result<Verdict, Stop>,
@@ -112,7 +115,7 @@ fn ended<S: Source, K: Sink, L: Sink>(
         IsEnded L.written l o head first core.new (given_to K.Sink outlets.new) result }
     ensures broke { IfSome (broke_at result) (λ j. served ≡ Err (Stop.Read j)) }
     ensures memory { result ≡ Ending.Memory → MayLackMemory served }
-    ensures front { MayStillWrite served →
+    ensures rest { MayStillWrite served →
         WritesRest K.Sink L.Sink outlets.old telling.old outlets.new }
     ensures records { core.new.arbiter.records ≡ core.old.arbiter.records }
     ensures writes { (first : Outlets K L) →

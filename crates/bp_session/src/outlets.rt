@@ -1,5 +1,5 @@
 //! The two outlets of a run.
-ghost use Rattle.std.specs.Prelude.{OnOk, IsErrOf};
+ghost use Rattle.std.specs.Prelude.{◌≡◌, OnOk, IsErrOf};
 ghost use Rattle.bp_told.specs.Told.{NothingWaits, WritesAll, WritesPart, WritesOut};
 ghost use Rattle.bp_session.specs.inner.Outlets.{given_to, told_fault, WritesTo};
 
@@ -22,6 +22,7 @@ impl<K: Sink, L: Sink> Outlets<'_, '_, K, L> {
         ensures whole { OnOk result (WritesOut L.written (given_to K.Sink self.old) telling.old
             (given_to K.Sink self.new)) }
         ensures nothing { OnOk result (NothingWaits telling.new) }
+        ensures kept { telling.new.kept ≡ telling.old.kept }
         ensures memory { ¬ IsErrOf result RunFault.Memory }
         ensures writes { WritesTo K.Sink L.Sink self.old self.new (told_fault result) }
     {

@@ -117,10 +117,10 @@ impl Session {
     ///
     /// No clause speaks of threads or of waiting. Each input is read on a thread of its own, and what is
     /// there of it enters between two transitions; if no thread can be made the calling one reads, but only
-    /// where the run waits. All that was told is written before the run waits: that is proved inside, since
-    /// what may wait asks for it. If nothing can be selected, a run that waits for its injectors waits for
-    /// one that is still read, and any other run ends. This returns once each injector has returned from
-    /// its source.
+    /// where the run waits. All of the run so far is written before it waits for an injector: that is proved
+    /// inside, since the wait asks for evidence of it. If nothing can be selected, a run that waits for its
+    /// injectors waits for one that is still read, and any other run ends. This returns once each injector
+    /// has returned from its source.
     pub fn run<S: Source + Send + Drop, R: Threads + Wait + Sync, K: Sink, L: Sink>(
         rt: &R,
         alloc: Global,

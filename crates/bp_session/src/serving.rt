@@ -6,10 +6,10 @@ ghost use Rattle.bp_floor.specs.declared.phase.Phase.TheVariants as phase;
 ghost use Rattle.bp_core.specs.Cores.{KeepsProgram};
 ghost use Rattle.bp_scope.specs.Readings.{Pairs, GoesOnAs};
 ghost use Rattle.bp_told.specs.Told.{NothingWaits, WritesAll};
-ghost use Rattle.bp_session.specs.inner.Hearing.{AreAsHeard, HearOn, CanServe};
+ghost use Rattle.bp_session.specs.inner.Hearing.{AreAsHeard, AreHeardOut, HearOn, CanServe};
 ghost use Rattle.bp_session.specs.inner.Turning.{turns_here, MakeTurns, IsWaiting};
 ghost use Rattle.bp_session.specs.inner.Outlets.{given_to, told_fault, served_fault, WritesTo};
-ghost use Rattle.bp_session.specs.inner.Serving.{IsReady, ServesOn, BreaksServing, IsToldStill, StopsServing, StopsTurning, TellsAll, WritesRun, LeadsOn, CutsAt, KeepsItems};
+ghost use Rattle.bp_session.specs.inner.Serving.{IsReady, ServesOn, BreaksServing, IsToldStill, StopsServing, StopsTurning, TellsAll, WritesRun, LeadsOn, CutsAt, KeepsItems, NothingUntold, StaysThere};
 ghost use Rattle.bp_turns.specs.Settled.{IsSomewhereHere, IsSettled};
 
 use crate::calling::Calls;
@@ -30,7 +30,7 @@ use std::alloc::Global;
 use std::sync::Wait;
 use std::thread::Threads;
 
-/// Writes what waits to be written, and shows the run as it stands, before anything may wait.
+/// Writes what waits to be written, and then shows the run as it stands.
 fn write_and_show<R: Threads + Wait + Sync, K: Sink, L: Sink, V: Shows>(
     rt: &R,
     alloc: Global,
@@ -39,20 +39,23 @@ fn write_and_show<R: Threads + Wait + Sync, K: Sink, L: Sink, V: Shows>(
     outlets: &mut Outlets<'_, '_, K, L>,
     shows: &mut V,
 ) -> Result<(), Stop>
+    requires untold { NothingUntold core.now telling.old }
     ensures all { OnOk result (WritesAll L.written (given_to K.Sink outlets.old) telling.old
         (given_to K.Sink outlets.new) telling.new) }
     ensures stops { IfErr result (StopsTurning L.written (given_to K.Sink outlets.old) telling.old
         (given_to K.Sink outlets.new) telling.new) }
     ensures nothing { OnOk result (NothingWaits telling.new) }
+    ensures untold { NothingUntold core.now telling.new }
     ensures writes { WritesTo K.Sink L.Sink outlets.old outlets.new (served_fault result) }
 {
     write(telling, outlets)?;
-    shows.show(rt, alloc, core, Written::of(telling))?;
+    shows.show(rt, alloc, core, Written::of(core, telling))?;
     Ok(())
 }
 
-/// If the run waits, makes the turns of injectors that have no thread. What waits to be written is
-/// written before, since a turn may wait for its source. True if there was such an injector.
+/// The run waits, and nothing more of any injector can enter: makes a turn of each injector that has no thread
+/// and is not over. All of the run is written before, since a turn may wait for its source. True if there was
+/// such an injector.
 fn turn_here<S: Source, R: Threads + Wait + Sync, K: Sink, L: Sink, V: Shows>(
     rt: &R,
     alloc: Global,
@@ -63,6 +66,8 @@ fn turn_here<S: Source, R: Threads + Wait + Sync, K: Sink, L: Sink, V: Shows>(
     shows: &mut V,
 ) -> Result<bool, Stop>
     requires waiting { IsWaiting core.now }
+    requires heard { AreHeardOut core.now readings.old.items }
+    requires untold { NothingUntold core.now telling.old }
     ensures told { IfOk result (λ some. IsToldStill L.written some (given_to K.Sink outlets.old)
         telling.old (given_to K.Sink outlets.new) telling.new) }
     ensures stops { IfErr result (StopsTurning L.written (given_to K.Sink outlets.old) telling.old
@@ -71,25 +76,28 @@ fn turn_here<S: Source, R: Threads + Wait + Sync, K: Sink, L: Sink, V: Shows>(
     ensures turns { OnOk result (MakeTurns readings.old.items readings.new.items) }
     ensures goes_on { Pairs (GoesOnAs S.left S.faults) readings.old.items readings.new.items }
     ensures hearing { AreAsHeard readings.old.items readings.new.items }
+    ensures untold { NothingUntold core.now telling.new }
     ensures writes { WritesTo K.Sink L.Sink outlets.old outlets.new (served_fault result) }
 {
     if !some_turn_here(readings) {
         return Ok(false);
     }
     write_and_show(rt, alloc, core, telling, outlets, shows)?;
-    turn_all_here(readings, Written::of(telling))?;
+    turn_all_here(readings, Written::of(core, telling))?;
     Ok(true)
 }
 
 /// Waits until an injector rings, where there are any.
-fn wait_at<R: Threads + Wait + Sync>(rt: &R, calls: &mut Option<Calls<'_>>, written: Written<'_>) {
+fn wait_at<R: Threads + Wait + Sync>(rt: &R, calls: &mut Option<Calls<'_>>, written: Written<'_>)
+    requires waiting { IsWaiting written.core.now }
+{
     if let Some(calls) = calls {
         calls.wait(rt, written);
     }
 }
 
-/// If the run waits and every injector has a thread, waits until one rings. What waits to be written is
-/// written before.
+/// The run waits: if the session is to wait for it, all of the run is written, and then it waits until an
+/// injector rings.
 fn wait_where<R: Threads + Wait + Sync, K: Sink, L: Sink, V: Shows>(
     rt: &R,
     alloc: Global,
@@ -101,6 +109,7 @@ fn wait_where<R: Threads + Wait + Sync, K: Sink, L: Sink, V: Shows>(
     shows: &mut V,
 ) -> Result<(), Stop>
     requires waiting { IsWaiting core.now }
+    requires untold { NothingUntold core.now telling.old }
     ensures told { OnOk result (IsToldStill L.written waits (given_to K.Sink outlets.old)
         telling.old (given_to K.Sink outlets.new) telling.new) }
     ensures stops { IfErr result (StopsTurning L.written (given_to K.Sink outlets.old) telling.old
@@ -111,11 +120,11 @@ fn wait_where<R: Threads + Wait + Sync, K: Sink, L: Sink, V: Shows>(
         return Ok(());
     }
     write_and_show(rt, alloc, core, telling, outlets, shows)?;
-    wait_at(rt, calls, Written::of(telling));
+    wait_at(rt, calls, Written::of(core, telling));
     Ok(())
 }
 
-/// Writes what waits to be written, if something entered before.
+/// Writes what waits to be written, if something entered in the round before.
 fn write_where<K: Sink, L: Sink>(
     heard: bool,
     telling: &mut Telling,
@@ -125,6 +134,7 @@ fn write_where<K: Sink, L: Sink>(
         telling.old (given_to K.Sink outlets.new) telling.new) }
     ensures stops { IfErr result (StopsTurning L.written (given_to K.Sink outlets.old) telling.old
         (given_to K.Sink outlets.new) telling.new) }
+    ensures kept { telling.new.kept ≡ telling.old.kept }
     ensures writes { WritesTo K.Sink L.Sink outlets.old outlets.new (served_fault result) }
 {
     if !heard {
@@ -166,6 +176,7 @@ fn pick(core: &mut Core) -> Result<Picked, Memory>
     ensures picks { OnOk result (LeadsOn core.old core.new) }
     ensures waits { IfOk result (λ k. IsSomewhereHere core.old → k ≡ Picked.Wait →
         IsWaiting core.new) }
+    ensures stays { IfOk result (λ k. k ≡ Picked.Wait → StaysThere core.old core.new) }
     ensures cut { OnErr result (CutsAt core.old core.new) }
     ensures items { IsSomewhereHere core.old → KeepsItems core.old.arbiter.records
         core.new.arbiter.records }
@@ -176,8 +187,8 @@ fn pick(core: &mut Core) -> Result<Picked, Memory>
 }
 
 /// Has what is there of the injectors enter, and then makes what comes next. Only if nothing entered and
-/// the run waits until something does, own turns are made, or the session waits. True if something
-/// entered.
+/// the run waits, all of it is written, and own turns are made, or else the session waits for an injector.
+/// Answers whether something entered.
 fn round<S: Source, R: Threads + Wait + Sync, K: Sink, L: Sink, V: Shows>(
     rt: &R,
     alloc: Global,
@@ -191,6 +202,7 @@ fn round<S: Source, R: Threads + Wait + Sync, K: Sink, L: Sink, V: Shows>(
     requires can { CanServe L.written core.old (given_to K.Sink outlets.old) telling.old
         readings.old.items }
     requires rest { core.old.arbiter.phase ≡ phase.Rest }
+    requires untold { NothingUntold core.old telling.old }
     ensures serves { OnOk result (ServesOn L.written core.old (given_to K.Sink outlets.old)
         telling.old core.new (given_to K.Sink outlets.new) telling.new) }
     ensures inside { OnOk result (core.new.out ≡ core.old.out) }
@@ -234,7 +246,8 @@ fn verdict_shown<R: Threads + Wait + Sync, K: Sink, L: Sink, V: Shows>(
     outlets: &mut Outlets<'_, '_, K, L>,
     shows: &mut V,
 ) -> Result<Verdict, Stop>
-    requires { core.now.arbiter.phase ≡ phase.Over }
+    requires over { core.now.arbiter.phase ≡ phase.Over }
+    requires untold { NothingUntold core.now telling.old }
     ensures verdict { IfOk result (λ v. verdict_of core.now.arbiter.records ≡ Some v) }
     ensures all { OnOk result (WritesAll L.written (given_to K.Sink outlets.old) telling.old
         (given_to K.Sink outlets.new) telling.new) }
@@ -263,6 +276,7 @@ fn settle_and_tell<C: Carrier, K: Sink, L: Sink>(
     ensures tells { OnOk result (TellsAll L.written core.old (given_to K.Sink outlets.old)
         telling.old core.new (given_to K.Sink outlets.new) telling.new) }
     ensures settled { OnOk result (IsSettled core.new.arbiter.phase) }
+    ensures untold { OnOk result (NothingUntold core.new telling.new) }
     ensures breaks { IfErr result (BreaksServing L.written core.old
         (given_to K.Sink outlets.old) telling.old core.new (given_to K.Sink outlets.new)
         telling.new) }
@@ -275,9 +289,9 @@ fn settle_and_tell<C: Carrier, K: Sink, L: Sink>(
 }
 
 /// Serves the run to its verdict: has what is there of the injectors enter, makes what comes next, has
-/// jobs carried to their outcomes, and tells all of it as it comes. What is told is written before
-/// anything may wait, after a round in which something entered, and once the run is over. The run is shown
-/// before anything may wait, and once it is over. Without injectors nobody calls, and nothing waits.
+/// jobs carried to their outcomes, and tells all of it as it comes. What is told is written before the run
+/// waits for an injector or a source, after a round in which something entered, and once the run is over.
+/// The run is shown before it waits so, and once it is over. Without injectors there is nobody to wait for.
 pub(crate) fn serve_on<S: Source, R: Threads + Wait + Sync, K: Sink, L: Sink, V: Shows>(
     rt: &R,
     alloc: Global,

@@ -6,8 +6,8 @@ use std::alloc::Global;
 use std::sync::Wait;
 use std::thread::Threads;
 
-/// What is shown the run that a session serves: before anything waits, and once it is over. It may wait
-/// itself, so all that was told is written before.
+/// What is shown the run that a session serves: before it waits, and once it is over. It may wait itself, so
+/// all of the run so far is written before.
 pub(crate) trait Shows {
     ghost use denote.Param.Send.{IsSync};
 

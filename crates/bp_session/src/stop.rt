@@ -1,11 +1,11 @@
-//! Why serving stopped before a verdict.
+//! Why serving stopped.
 ghost use Rattle.std.specs.Prelude.{◌≡◌};
 
 use bp_told::RunFault;
 use std::alloc::AllocError;
 use thiserror::Error;
 
-/// Why serving stopped before a verdict.
+/// Why serving stopped. A verdict may be recorded all the same: telling or writing it can fail.
 #[derive(Clone, Copy, Debug, PartialEq, Eq, Error)]
 pub(crate) enum Stop {
     /// The source of this injector failed.

@@ -3,7 +3,7 @@ ghost use Rattle.std.specs.Prelude.{◌≡◌, true, OnOk, IfErr};
 ghost use Rattle.bp_told.specs.Told.{NothingWaits, WritesAll};
 ghost use Rattle.bp_floor.specs.Floors.{is_idle};
 ghost use Rattle.bp_session.specs.inner.Outlets.{given_to, told_fault, served_fault, WritesTo};
-ghost use Rattle.bp_session.specs.inner.Serving.{IsReady, ServesOn, BreaksServing, TellsAll, StopsTurning, KeepsRun};
+ghost use Rattle.bp_session.specs.inner.Serving.{IsReady, ServesOn, BreaksServing, TellsAll, StopsTurning, KeepsRun, NothingUntold};
 
 use crate::outlets::Outlets;
 use crate::stop::Stop;
@@ -27,6 +27,7 @@ pub(crate) fn tell<K: Sink, L: Sink>(
         telling.new) }
     ensures breaks { IfErr result (BreaksServing L.written core.old (given_to K.Sink outlets.old)
         telling.old core.new (given_to K.Sink outlets.new) telling.new) }
+    ensures untold { OnOk result (NothingUntold core.new telling.new) }
     ensures run { KeepsRun core.old core.new }
     ensures writes { WritesTo K.Sink L.Sink outlets.old outlets.new (told_fault result) }
 {
@@ -52,6 +53,7 @@ pub(crate) fn write<K: Sink, L: Sink>(
     ensures stops { IfErr result (StopsTurning L.written (given_to K.Sink outlets.old) telling.old
         (given_to K.Sink outlets.new) telling.new) }
     ensures nothing { OnOk result (NothingWaits telling.new) }
+    ensures kept { telling.new.kept ≡ telling.old.kept }
     ensures writes { WritesTo K.Sink L.Sink outlets.old outlets.new (served_fault result) }
 {
     match outlets.flush(telling) {

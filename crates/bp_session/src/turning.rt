@@ -3,7 +3,7 @@ ghost use Rattle.std.specs.Prelude.{◌≡◌, OnOk};
 ghost use Rattle.std.specs.List.{list_any};
 ghost use Rattle.bp_scope.specs.Readings.{Pairs, GoesOnAs};
 ghost use Rattle.bp_session.specs.inner.Hearing.{AreAsHeard};
-ghost use Rattle.bp_session.specs.inner.Turning.{turns_here, MakesTurn, MakeTurns};
+ghost use Rattle.bp_session.specs.inner.Turning.{turns_here, MakesTurn, MakeTurns, IsWaiting};
 
 use crate::written::Written;
 use bp_base::{Memory, Source};
@@ -53,12 +53,14 @@ fn turn_here<S: Source>(reading: &mut Reading<S>) -> Result<(), Memory>
 /// Makes one turn of each injector that has no thread and is not over. A turn may wait for its source.
 pub(crate) fn turn_all_here<S: Source>(
     readings: &mut Vec<Reading<S>>,
-    _written: Written<'_>,
+    written: Written<'_>,
 ) -> Result<(), Memory>
+    requires waiting { IsWaiting written.core.now }
     ensures goes_on { Pairs (GoesOnAs S.left S.faults) readings.old.items readings.new.items }
     ensures hearing { AreAsHeard readings.old.items readings.new.items }
     ensures turns { OnOk result (MakeTurns readings.old.items readings.new.items) }
 {
+    let _ = written;
     for reading in readings.iter_mut() {
         turn_here(reading)?;
     }

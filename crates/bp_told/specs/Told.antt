@@ -11,8 +11,7 @@ use Rattle.bp_told.specs.Pages.{Shows, ShowsFront}
 use Rattle.bp_told.specs.declared.fault.RunFault.{RunFault}
 use Rattle.bp_told.specs.declared.fault.RunFault.TheVariants.{LogWrite}
 
--- what waits to be written: lines for the output, and text for the log; and how many records the log
--- has or waits for
+-- what waits to be written: lines for the output, and text for the log; and how many records were told
 pub record Waiting : Type 0 where
   pub lines : List ℕ
   pub records : List ℕ

@@ -24,7 +24,7 @@ pub struct Telling {
     lines: Page,
     /// What comes next in the log, where one is kept.
     records: Page,
-    /// How many records stand in the log or wait on its page.
+    /// How many records were told.
     kept: usize,
 }
 
@@ -223,6 +223,7 @@ impl Telling {
         }
         Ok(())
     }
+
     /// Tells further records of a run, of which all so far are given, and then the lines that came
     /// with them. What waits is written whenever that is much.
     pub fn tell<K: Sink, L: Sink>(
@@ -263,6 +264,7 @@ impl Telling {
         ensures whole { OnOk result (WritesOut L.written
             (given K.written out.old log.old) self.old (given K.written out.new log.new)) }
         ensures nothing { OnOk result (NothingWaits self.new) }
+        ensures kept { self.new.kept ≡ self.old.kept }
         ensures memory { ¬ IsErrOf result RunFault.Memory }
         ensures cause { IsErrOf result RunFault.Write → Rose (K.faults out.old) (K.faults out.new) }
         ensures log_cause { IsErrOf result RunFault.LogWrite → LogFails L.faults log.old log.new }

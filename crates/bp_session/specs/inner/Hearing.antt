@@ -9,18 +9,19 @@ use Rattle.bp_hear.specs.declared.hearing.TheConstants.{MOST_HEARD}
 use Rattle.bp_hear.specs.Hearings.{IsRecorded, AreHeard, Hears, IsHeardOut}
 use Rattle.bp_scope.specs.declared.reading.Reading.{Reading}
 use Rattle.bp_scope.specs.Readings.{HasFailed, Pairs, GoesOnAs}
-use Rattle.bp_session.specs.inner.Serving.{IsReady, LeadsOn}
+use Rattle.bp_session.specs.inner.Serving.{IsReady, LeadsOn, StaysThere}
 use Rattle.bp_session.specs.declared.stop.Stop.{Stop}
 use Rattle.bp_session.specs.declared.stop.Stop.TheVariants.{Read, Broken, Unwritten}
 use Rattle.bp_told.specs.Told.{Given, Waiting}
 use Rattle.bp_told.specs.declared.fault.RunFault.TheVariants.{Memory}
 
--- wherever the core was, it was led on, on the same program
+-- Wherever the core was, it was led on, on the same program. If nothing was recorded, it is there still.
 pub record HearsOn (old new : Core) : Type 0 where
   pub leads : LeadsOn old new
   pub kept : KeepsProgram old.arbiter new.arbiter
   pub more : List Record
   pub records : new.arbiter.records ≡ old.arbiter.records ++ more
+  pub still : new.arbiter.records ≡ old.arbiter.records → StaysThere old new
 
 module _ {S : Type 0} where
   -- what was taken of this injector's lane is recorded as before, and what was recorded of others
@@ -46,6 +47,12 @@ module _ {S : Type 0} where
   WereHeard start end old new =
       (k : ℕ) (d e : Reading S) → k < length old
       → WasHeard start end k (slice_index_or old k d) (slice_index_or new k e)
+
+  -- nothing more of any of them can enter now
+  abbrev pub AreHeardOut : Core → List (Reading S) → Type 0
+  AreHeardOut c readings =
+      (k : ℕ) (d : Reading S) → k < length readings
+      → IsHeardOut k c (slice_index_or readings k d).hearing
 
   -- its fault is kept, or memory ran out
   abbrev pub IsStoppedAt : ℕ → Reading S → Stop → Type 0

@@ -12,14 +12,14 @@ use Rattle.bp_session.specs.declared.report.Ending.TheVariants.{Verdict, Read, W
 use Rattle.bp_session.specs.declared.stop.Stop.{Stop}
 use Rattle.bp_session.specs.declared.stop.Stop.TheVariants as stop
 
--- ---- the fault of the output, of the log or of memory that something ended with, if it did
+-- ---- the fault that something ended with, if it ended with one: of the output, of the log, or out of memory
 
 -- telling the run
 abbrev pub told_fault : {V : Type 0} → Result V RunFault → Option RunFault
 told_fault (Ok v) = None
 told_fault (Err f) = Some f
 
--- serving the run, if it stopped before a verdict
+-- serving the run, where it stopped
 abbrev pub stop_fault : Stop → Option RunFault
 stop_fault (stop.Read j) = None
 stop_fault (stop.Broken f) = Some f
@@ -45,7 +45,7 @@ abbrev pub given_to : {K L : Type 0} → Ghosts K → Outlets K L → Given L
 given_to k o = given k.written o.out.now o.log.now
 
 module _ {K L : Type 0} (k : Ghosts K) (l : Ghosts L) where
-  -- a fault comes only of the output or of the log that failed
+  -- A fault of the output or of the log comes only where that failed; out of memory needs no cause.
   abbrev pub IsCaused : K → K → Option L → Option L → RunFault → Type 0
   IsCaused out_old out_new old new fault.Write = Rose (k.faults out_old) (k.faults out_new)
   IsCaused out_old out_new old new fault.LogWrite = LogFails l.faults old new
@@ -59,7 +59,7 @@ module _ {K L : Type 0} (k : Ghosts K) (l : Ghosts L) where
     pub stays : LogStays l.made_as l.faults old new
     pub cause : IfSome ended (IsCaused out_old out_new old new)
 
-  -- the outlets are the same two as before, and that holds of what was written to them
+  -- The outlets are the same two as before, and WritesOn holds of them.
   pub record WritesTo (old new : Outlets K L) (ended : Option RunFault) : Type 0 where
     pub out_same : new.out.ghost_name ≡ old.out.ghost_name
     pub log_same : new.log.ghost_name ≡ old.log.ghost_name

@@ -1,5 +1,5 @@
 -- A run that is served.
-use Rattle.std.specs.Prelude.{Result, Ok, Err, ◌≡◌, ℕ, Bool, false, IsTrue, List, ◌++◌, take, Option, Some, None, IsSome}
+use Rattle.std.specs.Prelude.{Result, Ok, Err, ◌≡◌, ℕ, Bool, false, IsTrue, List, ◌++◌, length, take, Option, Some, None, IsSome}
 use Rattle.js_value.specs.Value.{PlainSet}
 use Rattle.js_meaning.specs.Bodies.{Origin}
 use Rattle.bp_log.specs.Options.{PlainOptions}
@@ -13,7 +13,7 @@ use Rattle.bp_run.specs.Text.{text}
 use Rattle.bp_steps.specs.Merging.{items_by}
 use Rattle.bp_steps.specs.Steps.{Moment}
 use Rattle.bp_floor.specs.declared.phase.Phase.TheVariants.{Rest}
-use Rattle.bp_arbiter.specs.Arbiters.{Tells, code_in, options_in}
+use Rattle.bp_arbiter.specs.Arbiters.{Tells, code_in, options_in, stand_in}
 use Rattle.bp_core.specs.declared.stepping.Core.{Core}
 use Rattle.bp_core.specs.Cores.{KeepsProgram}
 use Rattle.bp_told.specs.Order.{Texts, PrintsBehind}
@@ -34,15 +34,15 @@ ending_of fault.Write = Write
 ending_of fault.LogWrite = LogWrite
 ending_of fault.Memory = Memory
 
--- Memory ran out as the run was served, or a source failed. Then the rest is told, for which memory may
--- run out too.
+-- Memory ran out as the run was served, or a source failed: what is not told yet is told then, for which
+-- memory may run out too.
 abbrev pub MayLackMemory : Result logs.Verdict Stop → Type 0
 MayLackMemory (Ok v) = ⊥
 MayLackMemory (Err (stop.Read j)) = Unit {0}
 MayLackMemory (Err (stop.Broken f)) = f ≡ fault.Memory
 MayLackMemory (Err (stop.Unwritten f)) = f ≡ fault.Memory
 
--- telling broke off, and what waits may still be written
+-- serving broke off while the run was told or for want of memory, and what waits may still be written
 abbrev pub MayStillWrite : Result logs.Verdict Stop → Type 0
 MayStillWrite (Ok v) = ⊥
 MayStillWrite (Err (stop.Read j)) = ⊥
@@ -208,6 +208,17 @@ module _ {L : Type 0} (written : L → Option (List ℕ)) where
       (new : Given L) (end : Ending) : Type 0 where
     pub ends : (l : Code Origin PlainSet) (o : PlainOptions) (head : List ℕ) (first : Given L)
         → IsServing l o head first before old a → IsEnded l o head first after new end
+
+-- Nothing of the run is untold: as many records were told as the core has, and it has no line left to
+-- take.
+pub record NothingUntold (c : Core) (w : Waiting) : Type 0 where
+  pub records : w.kept ≡ length c.arbiter.records
+  pub lines : length (stand_in c.arbiter).lines ≡ 0
+
+-- wherever the core was, it is there still
+abbrev pub StaysThere : Core → Core → Type 0
+StaysThere old new =
+    (taken : List Line) (m : Moment Origin) → IsHere old taken m → IsHere new taken m
 
 -- the core is at a moment with more records
 pub record IsLedTo (old new : Core) (taken : List Line) : Type 0 where

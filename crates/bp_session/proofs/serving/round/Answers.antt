@@ -1,11 +1,13 @@
 use Rattle.std.proofs.Common.{rules}
+use Rattle.bp_scope.specs.Readings.{GoesOnAs}
+use Rattle.bp_scope.proofs.Readings.{pairs_many}
 use Rattle.bp_session.specs.inner.Outlets.{given_to}
 use Rattle.bp_told.specs.declared.fault.RunFault.TheVariants.{Memory}
 use Rattle.bp_session.specs.declared.stop.Stop.TheVariants as stop
 use Rattle.bp_session.specs.inner.Serving.{StopsServing}
-use Rattle.bp_session.proofs.Hears.{heard_still, go_none, go_both}
+use Rattle.bp_session.proofs.Hears.{heard_still, go_none, go_both, all_out}
 use Rattle.bp_session.proofs.Causes.{writes_none, writes_lack, writes_on, hearing_writes, memory_writes, stops_at}
-use Rattle.bp_session.proofs.Rounds.{from_err, whole_ready, hear_serves, picked_serves, serves_still, breaks_then, pick_breaks, memory_stops, hear_stops, turn_stops_then, heard_somewhere, picked_heard}
+use Rattle.bp_session.proofs.Rounds.{from_err, whole_ready, hear_serves, picked_serves, serves_still, breaks_then, pick_breaks, memory_stops, hear_stops, turn_stops_then, heard_somewhere, picked_heard, none_heard, somewhere_ready, untold_waits}
 use Rattle.bp_session.proofs.serving.round.Goals as goal
 
 pub returns-in_err-ask_halt-clause-stops : goal.returns-in_err-ask_halt-clause-stops
@@ -47,6 +49,17 @@ returns-then-heard-clause-serves g c =
 -- nothing comes until an item does: so the run waits
 pub turn_here-requires-clause-waiting : goal.turn_here-requires-clause-waiting
 turn_here-requires-clause-waiting g c κs o = c.in_ok-picked.ensures.waits (heard_somewhere c.requires.can.ready c.hear_all.ensures.hears) (search rules)
+
+-- each injector was heard out, and nothing of the run is untold
+pub turn_here-requires-clause-heard : goal.turn_here-requires-clause-heard
+turn_here-requires-clause-heard g c κs o =
+    let still = none_heard c.hear_all.ensures.hears c.in_ok-heard.ensures.some (search rules) in
+    all_out c.args.core.now c.hear_all.new.core c.pick.new.core c.args.readings.now.items c.hear_all.new.readings.items (somewhere_ready c.requires.can.ready) still (c.in_ok-picked.ensures.stays (search rules))
+    (pairs_many (GoesOnAs g.S.Source.left g.S.Source.faults) c.args.readings.now.items c.hear_all.new.readings.items c.hear_all.ensures.goes_on) c.in_ok-heard.ensures.were
+
+pub turn_here-requires-clause-untold : goal.turn_here-requires-clause-untold
+turn_here-requires-clause-untold g c κs o =
+    untold_waits c.requires.can.ready c.hear_all.ensures.hears c.in_ok-heard.ensures.some (search rules) (c.in_ok-picked.ensures.stays (search rules)) c.requires.untold
 
 pub wait_where-requires-clause-waiting : goal.wait_where-requires-clause-waiting
 wait_where-requires-clause-waiting g c κs o = c.in_ok-picked.ensures.waits (heard_somewhere c.requires.can.ready c.hear_all.ensures.hears) (search rules)

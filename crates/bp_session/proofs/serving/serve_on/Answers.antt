@@ -9,7 +9,7 @@ use Rattle.bp_session.specs.inner.Serving.{WritesRun, StopsTurning, StopsServing
 use Rattle.bp_session.proofs.Served.{ready_on}
 use Rattle.bp_session.proofs.Hears.{heard_kept, go_none, go_both}
 use Rattle.bp_session.proofs.Causes.{writes_none, writes_on, stops_at}
-use Rattle.bp_session.proofs.Rounds.{from_err, rest_of, serves_none, serves_both, serves_still, tells_then, writes_run, breaks_then, stops_then, turn_stops_then, on_err}
+use Rattle.bp_session.proofs.Rounds.{from_err, rest_of, serves_none, serves_both, serves_still, tells_then, writes_run, breaks_then, stops_then, turn_stops_then, on_err, untold_kept}
 use Rattle.bp_session.proofs.serving.serve_on.Goals as goal
 
 pub loop-init : goal.loop-init
@@ -33,8 +33,8 @@ pub returns-in_err-settle_and_tell-clause-writes : goal.returns-in_err-settle_an
 returns-in_err-settle_and_tell-clause-writes g c =
     stops_at _ _ c.from_residual.ensures.1 (writes_on c.loop.invariant.writes c.in_err-settle_and_tell.ensures.writes)
 
-pub verdict_shown-requires : goal.verdict_shown-requires
-verdict_shown-requires g c =
+pub verdict_shown-requires-clause-over : goal.verdict_shown-requires-clause-over
+verdict_shown-requires-clause-over g c =
     search rules
 
 pub returns-then-eq-clause-stops : goal.returns-then-eq-clause-stops
@@ -156,3 +156,7 @@ returns-in_err-heard-clause-hears g c =
       heard = c.round.ensures.hears.heard;
       goes_on = go_both g.S.Source.left g.S.Source.faults c.args.readings.now.items c.loop.readings.items c.round.new.readings.items c.loop.invariant.hears.goes_on c.round.ensures.hears.goes_on;
     }
+
+pub round-requires-clause-untold : goal.round-requires-clause-untold
+round-requires-clause-untold g c κs o =
+    untold_kept c.settle_and_tell.new.core c.settle_and_tell.new.telling c.write_where.new.telling c.write_where.ensures.kept c.in_ok-settle_and_tell.ensures.untold

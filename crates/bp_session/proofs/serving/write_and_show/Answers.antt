@@ -5,7 +5,7 @@ use Rattle.bp_session.specs.inner.Outlets.{given_to}
 use Rattle.bp_session.specs.inner.Serving.{StopsTurning}
 use Rattle.bp_session.proofs.Causes.{writes_lack, stops_at}
 use Rattle.bp_session.proofs.Tells.{write_still}
-use Rattle.bp_session.proofs.Rounds.{from_err}
+use Rattle.bp_session.proofs.Rounds.{from_err, untold_kept}
 use Rattle.bp_session.proofs.serving.write_and_show.Goals as goal
 
 pub returns-in_err-write-clause-stops : goal.returns-in_err-write-clause-stops
@@ -26,3 +26,15 @@ returns-in_err-show-clause-writes g c =
 
 pub returns-clause-writes : goal.returns-clause-writes
 returns-clause-writes g c = c.in_ok-write.ensures.writes
+
+pub of-requires-clause-untold : goal.of-requires-clause-untold
+of-requires-clause-untold g c = untold_kept c.args.core.now c.args.telling.now c.write.new.telling c.write.ensures.kept c.requires.untold
+
+pub returns-in_err-write-clause-untold : goal.returns-in_err-write-clause-untold
+returns-in_err-write-clause-untold g c = untold_kept c.args.core.now c.args.telling.now c.write.new.telling c.write.ensures.kept c.requires.untold
+
+pub returns-in_err-show-clause-untold : goal.returns-in_err-show-clause-untold
+returns-in_err-show-clause-untold g c = untold_kept c.args.core.now c.args.telling.now c.write.new.telling c.write.ensures.kept c.requires.untold
+
+pub returns-clause-untold : goal.returns-clause-untold
+returns-clause-untold g c = untold_kept c.args.core.now c.args.telling.now c.write.new.telling c.write.ensures.kept c.requires.untold

@@ -7,7 +7,7 @@ use Rattle.bp_arbiter.specs.Arbiters.{PlainArbiter, stand_in}
 use Rattle.bp_told.specs.Told.{given, TellsOn, BreaksOff}
 use Rattle.bp_session.specs.inner.Outlets.{given_to}
 use Rattle.bp_told.specs.declared.fault.RunFault.{RunFault}
-use Rattle.bp_session.specs.inner.Serving.{ServesOn, TellsAll, BreaksServing}
+use Rattle.bp_session.specs.inner.Serving.{ServesOn, TellsAll, BreaksServing, NothingUntold}
 use Rattle.bp_session.proofs.Causes.{caused_by}
 use Rattle.bp_session.proofs.Served.{ready_few}
 use Rattle.bp_session.proofs.Tells.{taken_of, these_serve, these_all, these_break}
@@ -79,3 +79,9 @@ returns-clause-run g c =
 pub returns-clause-writes : goal.returns-clause-writes
 returns-clause-writes g c =
     record { out_same = refl; log_same = refl; writes = record { counts = c.tell.ensures.counts; stays = c.tell.ensures.stays; cause = caused_by g.K.Sink g.L.Sink c.tell.result c.args.outlets.now.out.now c.tell.new.out c.args.outlets.now.log.now c.tell.new.log c.tell.ensures.cause c.tell.ensures.log_cause } }
+
+pub returns-clause-untold : goal.returns-clause-untold
+returns-clause-untold g c =
+    let records = c.records.ensures ∙ ap (λ (a : PlainArbiter). a.records) c.arbiter-2.ensures in
+    one c.tell.result (c.tell.new.self.kept ≡ length c.records.result.now) (NothingUntold c.take_lines-lines.new.self c.tell.new.self)
+    (λ k. record { records = k ∙ ap (λ (rs : List Record). length rs) records; lines = ap (λ (ls : List Line). length ls) c.take_lines-lines.ensures.none }) c.tell.ensures.kept
