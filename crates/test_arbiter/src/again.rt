@@ -186,8 +186,8 @@ fn change(
     Ok(())
 }
 
-/// Each b-thread states something, and then one at a time, and mostly a question is answered alike:
-/// so many times.
+/// Each b-thread states something or nothing, and then one at a time does so this many times, and mostly a
+/// question is answered alike after it.
 fn agree_on(
     rt: &impl Abort,
     alloc: Global,

@@ -29,20 +29,21 @@ const EVENTS: [&[u8]; 12] = [
 ];
 
 /// Events of a b-thread's own, with a number in the place of the mark. An even b-thread and the next
-/// have one number, so that events of both have the same hash.
+/// have one number, so that events of both have the same hash. Those of one b-thread have another hash
+/// each: else it would not be counted how many block them.
 const EVEN: [&str; 4] = [
     "[\"a\",#]",
-    "[\"a\",{\"x\":#}]",
     "[\"b\",[#]]",
-    "[\"b\",{\"x\":{\"y\":{\"z\":#}}}]",
+    "[\"c\",{\"x\":#}]",
+    "[\"d\",{\"x\":{\"y\":{\"z\":#}}}]",
 ];
 
 /// Those of the next one.
 const ODD: [&str; 4] = [
     "[\"a\",[[#]]]",
-    "[\"a\",{\"y\":#}]",
     "[\"b\",[null,#]]",
-    "[\"b\",{\"z\":{\"y\":{\"x\":#}}}]",
+    "[\"c\",{\"y\":#}]",
+    "[\"d\",{\"z\":{\"y\":{\"x\":#}}}]",
 ];
 
 /// Where statements and events come from.
@@ -75,8 +76,8 @@ fn numbered(alloc: Global, form: &str, number: u32) -> Result<Event, Fail> {
 }
 
 impl Source {
-    /// The source of this seed. Those of an odd one have events of their own and seldom block. Of the even
-    /// ones each fourth requests nothing, so that the queue is asked.
+    /// The source of this seed. The b-threads of an odd one have events of their own, and the greater it is
+    /// the more seldom they block. Those of each fourth even one request nothing, so that the queue is asked.
     pub fn new(seed: u64, threads: u32) -> Source {
         let own = seed % 2 == 1;
         let requests = if seed % 8 == 4 { 1 } else { 3 };
