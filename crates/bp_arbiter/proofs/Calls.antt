@@ -22,8 +22,7 @@ use Rattle.bp_run.specs.Numbers.{numbers_from}
 use Rattle.bp_run.specs.Story.{touch, touch_all, step, stepped, entry_of, handler_body}
 use Rattle.bp_run.proofs.Numbers.{turn_entries}
 use Rattle.bp_meaning.specs.After.{effect_of, handler}
-use Rattle.bp_code.specs.Code.{ground_for}
-use Rattle.bp_code.specs.Code.{sealed_code_of as code_of}
+use Rattle.bp_code.specs.Code.{ground_for, sealed_code_of as code_of}
 use Rattle.bp_arbiter.specs.Calls.{is_call, AllCall, HandlerCalls, HandlersCall, RunCalls}
 
 -- what is registered is a call

@@ -17,8 +17,7 @@ use Rattle.bp_thread.specs.declared.job.Job.{Job}
 use Rattle.bp_thread.specs.Jobs.{PlainJob, plain_job, IsFresh, StandsFor as JobStands}
 use Rattle.bp_thread.specs.Carried.{CarriedOut, AreCarriedOut}
 use Rattle.bp_thread.proofs.Carrying.{carried_out, whole_stands, fresh_whole}
-use Rattle.bp_code.specs.Code.{ground_for}
-use Rattle.bp_code.specs.Code.{sealed_code_of as code_of}
+use Rattle.bp_code.specs.Code.{ground_for, sealed_code_of as code_of}
 use Rattle.bp_floor.specs.Forgetting.{forget, AreGoing}
 use Rattle.bp_floor.specs.Loans.{IsLent, IsDone, JobFor, AreLent, AreDone, fill, filled, filled_pair, standing}
 use Rattle.bp_floor.specs.Returns.{ground_at, AreLater, RunsAlone}

@@ -75,7 +75,7 @@ pub other_fields : found (slot 0 ∷ one (p.fields (codes "to" ∷ []) (0 ∷ []
     ∷ one (p.builtin form.Sync (3 ∷ [])) ∷ one (p.builtin form.Sync (0 ∷ 1 ∷ [])) ∷ []) ≡ at 1 f.has_priority ∷ []
 other_fields = refl
 
--- bp.sync(), and bp.sync(x) of a x that is written so
+-- bp.sync(), and bp.sync(x) of an x that is written so
 abbrev stated : PlainNodeForm → List Finding
 stated x = found (on 6 x ∷ on 5 (p.builtin form.Sync (0 ∷ [])) ∷ [])
 

@@ -19,9 +19,8 @@ use Rattle.bp_cli.specs.Outside.{Outside, IsUnder}
 use Rattle.bp_cli.specs.Conclusions.{code_of}
 use Rattle.bp_cli.specs.inner.Outcomes.{conclusion_of}
 use Rattle.bp_cli.specs.Endings.{Does, EndsIn, Ends}
-use Rattle.bp_cli.specs.inner.Unloaded.{IsUnloaded}
+use Rattle.bp_cli.specs.inner.Unloaded.{IsUnloaded, IsTooLong}
 use Rattle.bp_cli.specs.Refusing.{program_of, Refuses}
-use Rattle.bp_cli.specs.inner.Unloaded.{IsTooLong}
 
 -- ---- too long
 

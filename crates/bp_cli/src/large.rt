@@ -7,9 +7,8 @@ ghost use Rattle.bp_args.specs.declared.command.Command.TheVariants as command;
 ghost use Rattle.bp_cli.specs.inner.Outcomes.{ended_of};
 ghost use Rattle.bp_cli.specs.Endings.{EndsIn};
 ghost use Rattle.bp_cli.specs.Large.{is_selection as selects, large_line, IsOneRun};
-ghost use Rattle.bp_cli.specs.inner.Measured.{IsPrintedWhole};
+ghost use Rattle.bp_cli.specs.inner.Measured.{IsPrintedWhole, printing};
 ghost use Rattle.bp_cli.specs.Outside.{Outside};
-ghost use Rattle.bp_cli.specs.inner.Measured.{printing};
 
 use crate::conclusion::Conclusion;
 use crate::ended::Ended;

@@ -3,9 +3,8 @@ ghost use Rattle.std.specs.Prelude.{◌≡◌, ◌⊎◌, ◌≤◌, IsErrOf, If
 ghost use Rattle.bp_base.specs.Counts.{Rose};
 ghost use Rattle.bp_base.specs.Worlds.{Asks};
 ghost use Rattle.bp_script.specs.Programs.{IsProgram};
-ghost use Rattle.bp_cli.specs.inner.Unloaded.{IsUnloaded};
+ghost use Rattle.bp_cli.specs.inner.Unloaded.{IsUnloaded, IsTooLong};
 ghost use Rattle.bp_cli.specs.Outside.{IsUnder};
-ghost use Rattle.bp_cli.specs.inner.Unloaded.{IsTooLong};
 
 use crate::conclusion::Conclusion;
 use bp_base::{ReadError, World, WorldError, read_all};

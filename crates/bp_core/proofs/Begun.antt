@@ -17,9 +17,8 @@ use Rattle.bp_steps.specs.Steps.{Moment, pair_at, bodies, lent_bodies, fresh, le
 use Rattle.bp_thread.specs.declared.job.Job.{Job}
 use Rattle.bp_thread.specs.Jobs.{StandsAt}
 use Rattle.bp_thread.specs.Carried.{Carries, HaveDistinctNumbers}
-use Rattle.bp_code.specs.Code.{ground_for}
+use Rattle.bp_code.specs.Code.{ground_for, sealed_code_of as code_of}
 use Rattle.bp_floor.specs.declared.phase.Phase.TheVariants.{Ready, Lent}
-use Rattle.bp_code.specs.Code.{sealed_code_of as code_of}
 use Rattle.bp_floor.specs.Forgetting.{forget, forgotten, IsGoing, AreGoing}
 use Rattle.bp_floor.specs.Loans.{JobFor, IsLent, AreLent, standing}
 use Rattle.bp_floor.specs.Floors.{IsPhased, phase_at, phase_of}

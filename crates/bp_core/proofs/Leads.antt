@@ -23,12 +23,11 @@ use Rattle.bp_run.specs.Story.Next.{Ends, Selects, Waits}
 use Rattle.bp_run.proofs.Turns.{settle-rest, settle_over}
 use Rattle.bp_steps.specs.declared.step.CoreStep.TheVariants.{Absorb, Pick}
 use Rattle.bp_steps.specs.Merging.{record_by}
-use Rattle.bp_steps.specs.Steps.{Moment, pair_at, ends_at, lent_bodies, lends, fresh, settled, is_resting, picked, absorbed, after_step}
+use Rattle.bp_steps.specs.Steps.{Moment, pair_at, ends_at, lent_bodies, lends, fresh, settled, is_resting, picked, absorbed, after_step, opened as steps_opened}
 use Rattle.bp_thread.specs.declared.job.Job.{Job}
 use Rattle.bp_floor.specs.declared.phase.Phase.{Phase}
 use Rattle.bp_floor.specs.declared.phase.Phase.TheVariants.{Ready, Lent, Rest, Over}
 use Rattle.bp_floor.specs.Floors.{phase_at, phase_of}
-use Rattle.bp_steps.specs.Steps.{opened as steps_opened}
 use Rattle.js_program.specs.PlainProgram.{PlainProgram}
 use Rattle.bp_code.specs.Code.{sealed_code_of as code_of}
 use Rattle.bp_arbiter.specs.Arbiters.{opened, PlainArbiter, StandsFor, Recounts, code_in, options_in, stand_in, coming}

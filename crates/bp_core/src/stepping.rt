@@ -1,5 +1,5 @@
 //! A core: an arbiter together with its lent jobs.
-ghost use Rattle.std.specs.Prelude.{◌≡◌, ◌++◌, [], IfOk, IfErr, OnOk, OnErr, IsErr, IsErrAnd, Err, List, length, nat_eq, slice_get, ◌<◌, ◌^◌, Some, None, true, false};
+ghost use Rattle.std.specs.Prelude.{◌≡◌, ◌++◌, [], IfOk, IfErr, OnOk, OnErr, IsErr, Err, List, length, nat_eq, slice_get, ◌<◌, ◌^◌, Some, None, true, false};
 ghost use Rattle.std.specs.List.{list_any, list_all};
 ghost use Rattle.js_meaning.specs.Bodies.{Origin};
 ghost use Rattle.bp_log.specs.declared.trace.Line.{Line};
@@ -140,7 +140,7 @@ impl Core {
     }
 
     /// What comes next comes, and what is to be run then is lent. Its only error is out of memory,
-    /// after which each later call answers it and changes nothing.
+    /// after which each later call that makes a step answers it and changes nothing.
     pub fn pick(&mut self) -> Result<Picked, Memory>
         requires rest { self.old.arbiter.phase ≡ phase.Rest }
         ensures leads { OnOk result (Makes self.old self.new step.Pick) }
@@ -196,8 +196,8 @@ impl Core {
     }
 
     /// The turn of the lent jobs, each of which has its outcome, is merged, and what is to be run then
-    /// is lent: then more b-threads are there. Its only error is out of memory, after which each later
-    /// call answers it and changes nothing.
+    /// is lent: there is something only if b-threads were added. Its only error is out of memory, after
+    /// which each later call that makes a step answers it and changes nothing.
     pub fn seal(&mut self) -> Result<(), Memory>
         requires lent { self.old.arbiter.phase ≡ phase.Lent }
         requires done { AreDone self.old.jobs.items }
@@ -227,7 +227,7 @@ impl Core {
     }
 
     /// The lent job at this place is carried on by at most this many nodes. Its only error is out of
-    /// memory, after which each later call answers it.
+    /// memory, after which each later call that makes a step answers it.
     fn carry_on(&mut self, place: usize, nodes: u64) -> Result<(), Memory>
         requires lent { self.old.arbiter.phase ≡ phase.Lent }
         requires some { 0 < nodes }
@@ -355,8 +355,8 @@ impl Core {
         }
     }
 
-    /// A legal step is made. Its only error is out of memory, after which each later call answers
-    /// it.
+    /// A legal step is made. Its only error is out of memory, after which each later call that makes a
+    /// step answers it.
     fn make(&mut self, step: CoreStep) -> Result<(), Memory>
         requires legal { is_legal self.old.arbiter self.old.jobs.items step ≡ true }
         requires somewhere { IsSomewhere self.old self.old.jobs.items }
@@ -390,8 +390,8 @@ impl Core {
     /// # Errors
     ///
     /// `Illegal` exactly where the step at that place is the first that is not legal; the steps before
-    /// it were made, and it left nothing. `Memory` where memory ran out there, and, at the first
-    /// place, after memory ran out of an earlier call; the steps before it were made.
+    /// it were made, and nothing of it. `Memory` where memory ran out in that step, and at the first
+    /// place where it ran out in an earlier call; the steps before it were made.
     pub fn play(&mut self, steps: Vec<CoreStep>) -> Result<(), PlayFault>
         requires inside { self.old.out ≡ false }
         requires few { length steps.items < 2 ^ 32 }

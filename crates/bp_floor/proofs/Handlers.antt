@@ -7,7 +7,7 @@ use Rattle.js_value.specs.Value as value
 use Rattle.js_value.specs.Value.{PlainValue}
 use Rattle.js_meaning.specs.Bodies.{Origin, function}
 use Rattle.js_program.specs.declared.builtin.Mode.TheVariants as mode
-use Rattle.bp_code.specs.Code.{ground_for}
+use Rattle.bp_code.specs.Code.{ground_for, sealed_code_of as code_of}
 use Rattle.bp_run.specs.Configuration.{Thread, Stand}
 use Rattle.bp_run.specs.Settling.{Body, Entry}
 use Rattle.bp_run.specs.Choosing.{Touched}
@@ -16,7 +16,6 @@ use Rattle.bp_meaning.specs.After.{handler}
 use Rattle.bp_thread.specs.declared.job.Job.{Job}
 use Rattle.bp_thread.specs.Jobs.{plain_job, is_stopped}
 use Rattle.bp_floor.specs.declared.entry.Handler.{Handler}
-use Rattle.bp_code.specs.Code.{sealed_code_of as code_of}
 use Rattle.bp_floor.specs.inner.Entries.{handler_seen}
 use Rattle.bp_floor.specs.inner.Seats.{PlainSeat, seated, origin_in, replies_in, IsOwn, IsOwnIn, AreOwn}
 use Rattle.bp_floor.specs.inner.SeatViews.{job_at}

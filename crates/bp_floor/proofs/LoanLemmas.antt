@@ -8,7 +8,7 @@ use Rattle.js_program.specs.PlainProgram.{PlainProgram}
 use Rattle.js_meaning.specs.Bodies.{Origin, the_top, ground_of}
 use Rattle.js_meaning.specs.State.{Ground}
 use Rattle.bp_log.specs.Options.{PlainOptions}
-use Rattle.bp_code.specs.Code.{ground_for}
+use Rattle.bp_code.specs.Code.{ground_for, sealed_code_of as code_of}
 use Rattle.bp_run.specs.Bodies.{Outcome}
 use Rattle.bp_run.specs.Configuration.{Thread, change}
 use Rattle.bp_run.specs.Settling.{Body, Entry, own_body}
@@ -21,7 +21,6 @@ use Rattle.bp_floor.specs.declared.entry.Handler.{Handler}
 use Rattle.bp_floor.specs.declared.entry.Entry.{Entry as Code_entry}
 use Rattle.bp_floor.specs.declared.entry.Entry.TheVariants.{Top, Runs as Code_runs, Stops as Code_stops}
 use Rattle.bp_floor.specs.inner.Entries.{handler_seen, entry_seen}
-use Rattle.bp_code.specs.Code.{sealed_code_of as code_of}
 use Rattle.bp_floor.specs.inner.Seats.{PlainSeat, seated, origin_in, replies_in, outcome_in, is_waiting, is_ready, where_from, stop_at, statement_at, stated_from, IsOwn, IsOwnIn, AreOwn}
 use Rattle.bp_floor.specs.inner.SeatViews.{job_at}
 use Rattle.bp_floor.specs.inner.Kept.{Running, IsBelow, AreBelow, AreFrom, Rises, runs_in}

@@ -22,8 +22,7 @@ use Rattle.bp_select.specs.Benches.{placed, live_at}
 use Rattle.bp_thread.specs.declared.job.Job.{Job}
 use Rattle.bp_thread.specs.Jobs.{PlainJob, plain_job, is_ended, IsOf, StandsAt, StandsFor}
 use Rattle.bp_floor.specs.declared.board.Board.{Board}
-use Rattle.bp_code.specs.Code.{ground_for}
-use Rattle.bp_code.specs.Code.{sealed_code_of as code_of}
+use Rattle.bp_code.specs.Code.{ground_for, sealed_code_of as code_of}
 use Rattle.bp_floor.specs.inner.Seats.{PlainSeat, seated, is_waiting, is_ready, where_from, stop_at, statement_at, stated_from, IsOwn, AreOwn}
 use Rattle.bp_floor.specs.inner.Parts.{unstated, unstated_part}
 use Rattle.bp_floor.specs.inner.Kept.{Running, runs_in, AreBelow}

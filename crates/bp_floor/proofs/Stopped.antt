@@ -6,8 +6,7 @@ use Rattle.js_meaning.specs.Bodies.{evaluation}
 use Rattle.bp_run.specs.Bodies.{Outcome}
 use Rattle.bp_thread.specs.declared.job.Job.{Job}
 use Rattle.bp_thread.specs.Jobs.{plain_job, stop_line}
-use Rattle.bp_code.specs.Code.{ground_for}
-use Rattle.bp_code.specs.Code.{sealed_code_of as code_of}
+use Rattle.bp_code.specs.Code.{ground_for, sealed_code_of as code_of}
 use Rattle.bp_floor.specs.inner.Seats.{PlainSeat, seated, origin_in, replies_in, is_waiting, where_from, IsOwn, AreOwn}
 use Rattle.bp_floor.specs.inner.SeatViews.{job_at}
 use Rattle.bp_floor.specs.Stops.{stop_with, stop_in}

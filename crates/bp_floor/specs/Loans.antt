@@ -10,8 +10,7 @@ use Rattle.bp_run.specs.Numbers.{number_of}
 use Rattle.bp_meaning.specs.After.{effect_of}
 use Rattle.bp_thread.specs.declared.job.Job.{Job}
 use Rattle.bp_thread.specs.Jobs.{PlainJob, plain_job, IsOf, StandsFor, IsFresh}
-use Rattle.bp_code.specs.Code.{ground_for}
-use Rattle.bp_code.specs.Code.{sealed_code_of as code_of}
+use Rattle.bp_code.specs.Code.{ground_for, sealed_code_of as code_of}
 
 -- a job of this body, with this number, of this program
 pub record IsJobOf (program : PlainProgram) (n : ℕ) (b : Body Origin) (j : Job) : Type 0 where

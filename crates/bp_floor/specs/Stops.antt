@@ -8,8 +8,7 @@ use Rattle.bp_run.specs.Bodies.{Statement, Outcome}
 use Rattle.bp_run.specs.Bodies.Outcome.{Stopped}
 use Rattle.bp_run.specs.Configuration.{Thread}
 use Rattle.bp_thread.specs.Jobs.{stop_line}
-use Rattle.bp_code.specs.Code.{ground_for}
-use Rattle.bp_code.specs.Code.{sealed_code_of as code_of}
+use Rattle.bp_code.specs.Code.{ground_for, sealed_code_of as code_of}
 
 abbrev pub Stop : Type 0
 Stop = ℕ × Statement PlainSet

@@ -17,7 +17,6 @@ ghost use Rattle.bp_select.specs.Answers.{AnswersAs, IsWithin, chosen_of, enable
 ghost use Rattle.bp_thread.specs.Carried.{HaveDistinctNumbers};
 ghost use Rattle.bp_thread.specs.Views.{plain_statement};
 ghost use Rattle.bp_floor.specs.declared.phase.Phase.TheVariants as phase;
-ghost use Rattle.bp_floor.specs.declared.absorb.Absorb.TheVariants as absorb;
 ghost use Rattle.bp_floor.specs.inner.Boards.{pair_of};
 ghost use Rattle.bp_floor.specs.Stops.{stop_in};
 ghost use Rattle.bp_floor.specs.Loans.{AreLent, filled_pair, standing};

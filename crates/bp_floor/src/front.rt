@@ -1,5 +1,5 @@
 //! What is known of the front of the queue.
-ghost use Rattle.std.specs.Prelude.{◌≡◌, ◌<◌, ◌∷◌, ◌++◌, [], option_map, OnOk, true, List};
+ghost use Rattle.std.specs.Prelude.{◌≡◌, ◌<◌, ◌∷◌, [], option_map, OnOk, true, List};
 ghost use Rattle.js_value.specs.Value.{PlainSet};
 ghost use Rattle.bp_floor.specs.inner.Desks.{nothing_known, IsRestated, HasGone, HasCome};
 

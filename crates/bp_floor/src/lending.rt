@@ -2,9 +2,8 @@
 ghost use Rattle.std.specs.Prelude.{◌≡◌, ◌<◌, ◌++◌, length, option_map, option_to_list, IfOk, OnOk};
 ghost use Rattle.bp_run.specs.Settling as settling;
 ghost use Rattle.js_frames.specs.Places.{plain_ground};
-ghost use Rattle.bp_floor.specs.inner.Entries.{entry_seen};
+ghost use Rattle.bp_floor.specs.inner.Entries.{entry_seen, handler_seen};
 ghost use Rattle.bp_floor.specs.inner.Kept.{IsBelow, Running};
-ghost use Rattle.bp_floor.specs.inner.Entries.{handler_seen};
 ghost use Rattle.bp_floor.specs.inner.TakenOut.{CanLend, Lends, AreOut, IsStarted};
 
 use crate::{Entry, Handler, Seats, Wave};

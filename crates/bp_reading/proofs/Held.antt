@@ -13,9 +13,8 @@ use Rattle.js_data.specs.Whole.{is_whole, IsWhole}
 use Rattle.js_data.specs.Data.{PlainData, null, truth, whole, text as words, list, fields, DataList, no_data, item, DataFields, no_fields, field, IsHeld, AreHeld, AreHeldFields}
 use Rattle.js_data.specs.Event.{PlainEvent, IsHeldExtra}
 use Rattle.js_data.specs.JsonText.{data_text, data_list_text, data_fields_text, extra_text, quoted_text, comma}
-use Rattle.js_data.proofs.Shared.{chained}
+use Rattle.js_data.proofs.Shared.{chained, mapped}
 use Rattle.js_json.specs.Json.{if_whole, data_from, list_from, fields_from, event_of_parts, event_of_items, event_from}
-use Rattle.js_data.proofs.Shared.{mapped}
 use Rattle.bp_reading.proofs.Unquoted.{past_ascii, utf8_unquoted}
 
 -- where its text begins what is UTF-8, the data is held, and UTF-8 stands after it

@@ -24,8 +24,7 @@ use Rattle.bp_run.specs.Settling.{initial}
 use Rattle.bp_run.specs.Story.{after_record, story_from, story}
 use Rattle.bp_run.specs.Text.{text}
 use Rattle.bp_run.proofs.Stories.{story_first}
-use Rattle.bp_code.specs.Code.{sealed_code_of as code_of}
-use Rattle.bp_code.specs.Code.{text_of}
+use Rattle.bp_code.specs.Code.{sealed_code_of as code_of, text_of}
 use Rattle.bp_script.specs.Programs.{IsProgram, IsRefused}
 use Rattle.bp_script.proofs.Once.{never, one_program}
 use Rattle.bp_replay.specs.declared.fault.ReplayFault.{ReplayFault}

@@ -1,6 +1,6 @@
 //! A roll: which numbers are noted at which keys.
 ghost use Rattle.std.specs.Prelude.{◌≡◌, ℕ, [], false, nat_eq, true, OnOk};
-ghost use Rattle.bp_roll.specs.Lists.{AreListed, is_listed, items_at};
+ghost use Rattle.bp_roll.specs.Lists.{AreListed, is_listed};
 ghost use Rattle.bp_roll.specs.Rolls.{is_in, is_noted, numbers_at};
 
 use crate::lists::{Lists, enter, leave};
@@ -19,7 +19,8 @@ type Kept = IndexMap<u32, Vec<u64>>;
 #[derive(Drop)]
 pub struct Roll {
     lists: Lists,
-    /// The keys of each number. Only how fast it is noted anew rests on their being all.
+    /// The keys of each number, at which it is noted no longer once it is noted anew. If one were missing
+    /// here, only time and memory would be lost.
     kept: Kept,
 }
 

@@ -10,11 +10,10 @@ use Rattle.js_lexer.specs.Cut.{Cut, Refused}
 use Rattle.js_tree.specs.declared.limits.TheConstants.{MOST_NESTING}
 use Rattle.js_tree.specs.declared.tree.Name.{Name}
 use Rattle.js_tree.specs.Plain.{PlainItem}
-use Rattle.js_grammar.specs.Trees.{IsTree, HasNoTree}
+use Rattle.js_grammar.specs.Trees.{IsTree, HasNoTree, IsLineIn}
 use Rattle.js_grammar.specs.Unsupported.{first_unsupported}
 use Rattle.js_names.specs.declared.mention.NameFault.{NameFault}
 use Rattle.js_names.specs.Rules.{name_fault}
-use Rattle.js_grammar.specs.Trees.{IsLineIn}
 use Rattle.js_program.specs.PlainProgram.{PlainProgram}
 use Rattle.js_resolver.specs.Resolved.{resolved}
 use Rattle.bp_script.specs.declared.refusal.Kind.{Kind}

@@ -1,5 +1,5 @@
 -- Runs without injectors, which are moved on to their ends.
-use Rattle.std.proofs.Common.{◌≡◌, ◌∙◌, ◌+◌, ◌-◌, ◌≤◌, Bool, true, false, nat_lt, List, [], ◌∷◌, ◌++◌, length, length-append, Some, refl, sym, ap, arith}
+use Rattle.std.proofs.Common.{◌≡◌, ◌∙◌, ◌+◌, ◌≤◌, Bool, true, false, nat_lt, List, [], ◌∷◌, ◌++◌, length, length-append, Some, refl, sym, ap, arith}
 use Rattle.std.specs.Prelude.{option_map, option_and_then, option_to_list}
 use Rattle.js_value.specs.Value.{PlainSet}
 use Rattle.js_program.specs.PlainProgram.{PlainProgram}
@@ -19,7 +19,6 @@ use Rattle.bp_run.proofs.Injectors.{verdict_told}
 use Rattle.bp_run.proofs.Waiting.{story_same, alone_same, only_waiting_runs_wait}
 use Rattle.bp_code.specs.Code as whole
 use Rattle.bp_code.specs.Code.{sealed_code_of as code_of}
-use Rattle.bp_floor.specs.declared.phase.Phase.TheVariants.{Over}
 use Rattle.bp_arbiter.specs.declared.picked.Picked.{Picked}
 use Rattle.bp_arbiter.specs.declared.picked.Picked.TheVariants as picked
 use Rattle.bp_arbiter.specs.Arbiters.{PlainArbiter, opened, code_in, options_in, stand_in, Recounts, coming, StandsFor, StandsSomewhere, is_lent, Shows}

@@ -1,7 +1,7 @@
 -- The definitions computed at small programs.
 use Rattle.std.proofs.Common.{◌≡◌, List, [], ◌∷◌, refl}
 use Rattle.std.specs.Prelude.{Option, Some, None, codes, option_map}
-use Rattle.bp_log.specs.Options.{default_options}
+use Rattle.bp_log.specs.Options.{default_options, PlainOptions}
 use Rattle.bp_log.specs.declared.item.Item.TheVariants as item
 use Rattle.bp_log.specs.declared.record.Record.{Record}
 use Rattle.bp_log.specs.declared.record.Record.TheVariants.{In, Bad, Eof, Sel, End}
@@ -15,7 +15,6 @@ use Rattle.bp_run.specs.Bodies.Effect.{Register}
 use Rattle.bp_run.proofs.Rows.{Main, A, Nothing, Only, at_point, doing, code, in_waves, violations, one_overtaken, overtaking, with_injectors, x, go}
 use Rattle.bp_run.proofs.Rows as small
 use Rattle.js_data.specs.Event.{PlainEvent}
-use Rattle.bp_log.specs.Options.{PlainOptions}
 use Rattle.bp_steps.specs.Merging.{items_by}
 use Rattle.bp_steps.specs.declared.step.CoreStep.{CoreStep}
 use Rattle.bp_steps.specs.declared.step.CoreStep.TheVariants.{Absorb, Pick, Slice, Seal}

@@ -12,7 +12,7 @@ use Rattle.bp_thread.specs.declared.parts.Parts.{Parts}
 abbrev pub lent : Option (Bor Value) → Option PlainValue
 lent o = option_map (λ v. plain_value v.now) o
 
--- the values under each key
+-- the values that a statement has under each of its keys, where it has one
 pub record PlainParts : Type 0 where
   pub request : Option PlainValue
   pub wait_for : Option PlainValue

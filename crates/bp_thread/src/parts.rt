@@ -1,5 +1,5 @@
 //! What stands under the keys of a statement.
-ghost use Rattle.std.specs.Prelude.{◌≡◌, is_some, true, codes, option_map, IfSome};
+ghost use Rattle.std.specs.Prelude.{◌≡◌, is_some, codes, IfSome};
 ghost use Rattle.std.specs.List.{list_all};
 ghost use Rattle.js_value.specs.Lists.{fields_in};
 ghost use Rattle.js_value.specs.Parts.{field_at};

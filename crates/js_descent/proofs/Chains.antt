@@ -15,8 +15,7 @@ use Rattle.js_grammar.specs.Reader.{readers}
 use Rattle.js_cursor.specs.declared.cursor.Cursor.{Cursor}
 use Rattle.js_cursor.specs.declared.stop.Stop.{Stop}
 use Rattle.js_cursor.specs.declared.stop.Stop.TheVariants.{NoTree, Memory}
-use Rattle.js_cursor.specs.Read.{left}
-use Rattle.js_cursor.specs.Read.{IsExpr}
+use Rattle.js_cursor.specs.Read.{left, IsExpr}
 use Rattle.js_cursor.proofs.Loops.{operated_iteration}
 use Rattle.js_descent.proofs.Using.{operators_next, operators_none}
 

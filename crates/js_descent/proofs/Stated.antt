@@ -22,8 +22,7 @@ use Rattle.js_cursor.specs.declared.cursor.Cursor.{Cursor}
 use Rattle.js_cursor.specs.declared.stop.Stop.{Stop}
 use Rattle.js_cursor.specs.declared.stop.Stop.TheVariants.{NoTree, Memory}
 use Rattle.js_cursor.specs.Passed.{at_first}
-use Rattle.js_cursor.specs.Read.{left}
-use Rattle.js_cursor.specs.Read.{IsRead, IsExpr}
+use Rattle.js_cursor.specs.Read.{left, IsRead, IsExpr}
 use Rattle.js_descent.proofs.Using.{evaluated, statement_in, declarators_in}
 use Rattle.js_descent.proofs.Chains.{chain_deep, chain_broken}
 

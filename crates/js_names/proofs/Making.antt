@@ -4,12 +4,11 @@ use Rattle.std.proofs.lemmas.List.Folds.{flat_map-map}
 use Rattle.std.specs.Str.{bytes_eq}
 use Rattle.std.specs.List.{flat_map}
 use Rattle.std.specs.Map.{lookup}
-use Rattle.std.specs.Prelude.{string_bytes}
+use Rattle.std.specs.Prelude.{string_bytes, is_some}
 use Rattle.std.specs.HashMap.{get_by_text}
 use Rattle.js_tree.specs.declared.tree.Item.{Item}
 use Rattle.js_tree.specs.Views.{plain_item}
 use Rattle.js_names.specs.declared.mention.Declared.{Declared}
-use Rattle.std.specs.Prelude.{is_some}
 use Rattle.js_names.specs.Entries.{Entry, own_of_item, vars_of_item}
 use Rattle.js_names.specs.Scopes.{first, named, one_var, merge, kept, inner_scope, scope_with}
 use Rattle.js_names.specs.Mentions.{or_else}

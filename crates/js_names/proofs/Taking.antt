@@ -1,16 +1,14 @@
 -- Maps that take in declarations.
-use Rattle.std.proofs.Common.{◌≡◌, ℕ, ◌+◌, ◌<◌, List, [], ◌∷◌, ◌++◌, ◌∙◌, ap, refl, sym, subst, map, length, take, get_or, Option, Some, None, Bool, true, false, ⊎_elim, if◌then◌else◌}
+use Rattle.std.proofs.Common.{◌≡◌, ℕ, ◌+◌, ◌<◌, List, [], ◌∷◌, ◌++◌, ◌∙◌, ap, refl, sym, subst, map, length, take, get_or, Option, Some, None, Bool, true, false, ⊎_elim, if◌then◌else◌, arith}
 use Rattle.std.proofs.Math.Bool.{cond}
 use Rattle.std.proofs.lemmas.Bool.{cases_Bool, cond-true, cond-false}
 use Rattle.std.proofs.lemmas.Slice.Eq.{bytes_eq-Decides as bytes_decides}
 use Rattle.std.proofs.lemmas.Map.Text.{hash_map_updates_text}
 use Rattle.std.specs.Str.{bytes_eq}
-use Rattle.std.specs.Prelude.{is_some, max}
-use Rattle.std.proofs.Common.{arith}
+use Rattle.std.specs.Prelude.{is_some, max, String, string_bytes, Vec, Result, Ok, Err, OnOk}
 use Rattle.std.specs.List.{flat_map}
 use Rattle.std.specs.HashMap.{get_by_text, UpdatesBy}
 use Rattle.std.specs.String.{string_eq}
-use Rattle.std.specs.Prelude.{String, string_bytes}
 use Rattle.std.specs.declared.alloc.Global.{Global}
 use Rattle.std.proofs.lemmas.List.{take_more, map-append}
 use Rattle.js_data.proofs.Shared.{none_of, flat_map_take, kept-append}
@@ -20,7 +18,6 @@ use Rattle.js_tree.specs.declared.tree.Declarator.{Declarator}
 use Rattle.js_tree.specs.declared.tree.DeclareKind.{DeclareKind}
 use Rattle.js_tree.specs.declared.tree.Stmt.{Stmt}
 use Rattle.js_tree.specs.declared.tree.StmtForm.{Declaration, Block, IfElse, ForThree, If, While, ForOf}
-use Rattle.std.specs.Prelude.{Vec, Result, Ok, Err, OnOk}
 use Rattle.js_tree.specs.Plain.{declarators_of, stmts_of}
 use Rattle.js_tree.specs.Views.{plain_declarator, plain_stmt, plain_start}
 use Rattle.js_names.specs.Entries.{Entry, own_declarators, var_declarators, own_of, own_of_all, vars_of, vars_of_all, own_of_start, vars_of_start}

@@ -35,7 +35,7 @@ abbrev pub is_present : PlainPerhaps → Bool
 is_present absent = false
 is_present (present e) = true
 
--- the offset from which on the value of a `var` stays that names a parameter: after its declarator, or nowhere
+-- the offset from which on a `var` that names a parameter keeps its value: the end of its declarator, or none
 -- where it may run again
 abbrev pub given_at : Bool → PlainPerhaps → ℕ → ℕ
 given_at direct absent end = 0

@@ -1,5 +1,5 @@
 -- What maps of declarations take in.
-use Rattle.std.specs.Prelude.{◌≡◌, ℕ, Bool, true, List, [], ◌∷◌, Option, Some, None, is_some}
+use Rattle.std.specs.Prelude.{◌≡◌, ℕ, Bool, true, List, [], ◌∷◌, Option, Some, None, is_some, String}
 use Rattle.std.specs.HashMap.{get_by_text}
 use Rattle.js_tree.specs.declared.tree.Declarator.{Declarator}
 use Rattle.js_tree.specs.declared.tree.DeclareKind.{DeclareKind}
@@ -10,7 +10,6 @@ use Rattle.indexmap.specs.IndexMap.{IndexMap}
 use Rattle.std.specs.declared.hash.FoldHasher.{FoldHasher}
 use Rattle.std.specs.declared.hash.BuildHasherDefault.{BuildHasherDefault}
 use Rattle.std.specs.declared.alloc.Global.{Global}
-use Rattle.std.specs.Prelude.{String}
 use Rattle.js_names.specs.declared.mention.Declared.{Declared}
 use Rattle.js_names.specs.Entries.{Entry, own_declarator, var_declarator, own_of, vars_of, own_of_item, vars_of_item}
 use Rattle.js_names.specs.Scopes.{first, named, one_var, merge, kept}

@@ -155,7 +155,7 @@ fn declare_var(
     Ok(())
 }
 
-/// The offset from which on the value of a `var` stays that names a parameter: a nested one may run again.
+/// The offset from which on a `var` that names a parameter keeps its value: a nested one may run again.
 fn given_at(direct: bool, declarator: &Declarator) -> u32
     ensures { result ≡ given_at direct (plain_declarator declarator.now).value
         (plain_declarator declarator.now).end }

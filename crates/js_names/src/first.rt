@@ -5,7 +5,7 @@ ghost use Rattle.js_names.specs.Spots.{program_spot};
 
 use js_tree::{Item, Spot, Tree};
 
-/// The first token of a program, or the begin of a line where there is none.
+/// The first token of a program, or the begin of line 1 where there is none.
 pub(crate) fn program_spot(tree: &Tree) -> Spot
     ensures { result ≡ program_spot (plain_tree tree.now) }
 {

@@ -45,7 +45,7 @@ pub enum What {
     Reads,
     /// A name that is assigned or updated.
     Assigns,
-    /// A use of `bp`, `Math` or `undefined` that the language has not.
+    /// A use of `bp`, `Math` or `undefined` that the language does not have.
     Misuses,
     /// `break` or `continue`.
     LoopWord,

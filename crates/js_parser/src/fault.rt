@@ -1,5 +1,4 @@
 //! Why tokens are refused.
-use js_cursor::Stop;
 use thiserror::Error;
 
 /// Why no tree is made of tokens.

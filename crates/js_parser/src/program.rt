@@ -1,12 +1,11 @@
 //! Trees of programs.
 ghost use Rattle.std.specs.Prelude.{◌≡◌, false, IfOk, IfErr, None};
 ghost use Rattle.js_tree.specs.Views.{plain_item, plain_tree};
-ghost use Rattle.js_grammar.specs.Trees.{IsTree};
+ghost use Rattle.js_grammar.specs.Trees.{IsTree, IsLineIn};
 ghost use Rattle.js_grammar.specs.Unsupported.{first_unsupported};
 ghost use Rattle.js_cursor.specs.Passed.{at_first};
 ghost use Rattle.js_cursor.specs.Read.{IsGiven};
 ghost use Rattle.js_parser.specs.Parse.{next_item, next_function, IsItems, IsParseFault, IsFault};
-ghost use Rattle.js_grammar.specs.Trees.{IsLineIn};
 
 use crate::fault::ParseFault;
 use crate::refused::unsupported_line;

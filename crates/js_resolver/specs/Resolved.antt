@@ -8,8 +8,7 @@ use Rattle.js_names.specs.Entries.{top}
 use Rattle.js_names.specs.Mentions.{Mention, mentions, is_var}
 use Rattle.js_names.specs.Slots.{assigned_in, constants_of}
 use Rattle.js_names.specs.Rules.{name_fault}
-use Rattle.js_resolver.specs.Variables.{code_at, body_of, first_some}
-use Rattle.js_resolver.specs.Variables.{first_line}
+use Rattle.js_resolver.specs.Variables.{code_at, body_of, first_some, first_line}
 use Rattle.js_resolver.specs.Nodes.{items_piece}
 
 -- a function declaration whose name stands at an offset is a constant with its value from the start

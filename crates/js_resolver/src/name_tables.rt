@@ -5,8 +5,7 @@ ghost use Rattle.js_program.specs.Views.{plain_body, plain_content};
 ghost use Rattle.js_names.specs.Slots.{assigned_in, captures, constants_of, functions_in, slots_of, vars_of};
 ghost use Rattle.js_names.specs.Views.{mention_of};
 ghost use Rattle.js_names.specs.Held.{held_in};
-ghost use Rattle.js_resolver.specs.Variables.{first_line};
-ghost use Rattle.js_resolver.specs.Variables.{around_of, around_there, body_of, capture_slots, code_at, known_in, name_key, named_at, named_there, owner_key, slot_at, var_slots};
+ghost use Rattle.js_resolver.specs.Variables.{first_line, around_of, around_there, body_of, capture_slots, code_at, known_in, name_key, named_at, named_there, owner_key, slot_at, var_slots};
 
 use crate::tables::{
     constants_of, functions_around, functions_in, index_in, slots_among, variables_by_offset,

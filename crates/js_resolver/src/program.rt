@@ -14,8 +14,7 @@ ghost use Rattle.js_resolver.specs.Nodes.{items_piece};
 ghost use Rattle.js_resolver.specs.inner.Parts.{plain_parts};
 ghost use Rattle.js_resolver.specs.Resolved.{program_from, resolved};
 ghost use Rattle.js_resolver.specs.Spelled.{IsSpelled};
-ghost use Rattle.js_resolver.specs.Variables.{first_line};
-ghost use Rattle.js_resolver.specs.Variables.{body_of};
+ghost use Rattle.js_resolver.specs.Variables.{first_line, body_of};
 
 use crate::constants::constant_starts;
 use crate::emit::emit_items;

@@ -12,6 +12,6 @@ abbrev pub IsPrintedWhole : PlainProgram → List ℕ → Conclusion → Type 0
 IsPrintedWhole program written (Ran v) = text_alone program default_options ≡ Some written
 IsPrintedWhole program written _ = Unit {0}
 
--- the same, where this was printed, and printing failed so often
+-- the outside, once this was printed and printing has failed this often
 abbrev pub printing : Outside → Option (List ℕ) → ℕ → Outside
 printing outside printed faults = record outside { printed = printed; print_faults = faults }

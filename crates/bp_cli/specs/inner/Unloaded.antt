@@ -7,7 +7,7 @@ use Rattle.bp_cli.specs.declared.conclusion.Conclusion.TheVariants.{Refused, Not
 use Rattle.bp_cli.specs.Outside.{IsUnder}
 use Rattle.bp_cli.specs.Refusing.{IsRefusedUnder}
 
--- why there is not an accepted program of that name: it is refused, or was not read
+-- why no program of that name was loaded: it is refused, it was not read, or memory ran out
 abbrev pub IsUnloaded : Option Holdings → List ℕ → Conclusion → Type 0
 IsUnloaded holds name (Refused refusal) = IsRefusedUnder holds name refusal
 IsUnloaded holds name NotRead = Unit {0}

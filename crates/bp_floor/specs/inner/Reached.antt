@@ -12,8 +12,7 @@ use Rattle.bp_log.specs.declared.limits.TheConstants.{MOST_WAITING, MOST_THREADS
 use Rattle.bp_run.specs.Configuration.{Stand, change}
 use Rattle.bp_run.specs.Settling.{Body, Entry, Pair}
 use Rattle.bp_run.specs.Story.{touch_all, without, line_of_choice}
-use Rattle.bp_run.specs.Choosing.{Touched}
-use Rattle.bp_run.specs.Choosing.{Touched as to}
+use Rattle.bp_run.specs.Choosing.{Touched, Touched as to}
 use Rattle.bp_run.specs.Numbers.{number_in}
 use Rattle.bp_meaning.specs.After.{handler}
 use Rattle.bp_select.specs.Answers.{move_of}

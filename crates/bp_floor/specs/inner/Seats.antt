@@ -11,8 +11,7 @@ use Rattle.bp_run.specs.Configuration.{Thread}
 use Rattle.bp_run.specs.Selecting.{Live, at_stop}
 use Rattle.bp_thread.specs.declared.job.Job.{Job}
 use Rattle.bp_thread.specs.Jobs.{plain_job, IsOf, StandsFor, IsFresh}
-use Rattle.bp_code.specs.Code.{ground_for}
-use Rattle.bp_code.specs.Code.{sealed_code_of as code_of}
+use Rattle.bp_code.specs.Code.{ground_for, sealed_code_of as code_of}
 
 -- a b-thread: its name, its job unless that is lent or let go, and whether it has ended
 pub record PlainSeat : Type 0 where

@@ -1,7 +1,7 @@
 -- How a command ends that printed this, or to which this was answered of a log.
 use Rattle.std.specs.Prelude.{ℕ, List, [], ◌∷◌, unwrap_or}
 use Rattle.bpx_cli.specs.declared.ended.Ended.{Ended}
-use Rattle.bpx_cli.specs.declared.ended.Ended.TheVariants.{Answered, Found, Refused, Absent, BadLog}
+use Rattle.bpx_cli.specs.declared.ended.Ended.TheVariants.{Answered, Found, Absent, BadLog}
 use Rattle.bp_answers.specs.declared.answer.NoAnswer.{NoAnswer}
 use Rattle.bp_answers.specs.declared.answer.NoAnswer.TheVariants as answer
 use Rattle.bpx_cli.specs.Logs.{trouble_of}

@@ -11,9 +11,8 @@ use Rattle.js_names.specs.declared.mention.Role.{Role}
 use Rattle.js_names.specs.declared.mention.Role.TheVariants.{Parameter}
 use Rattle.js_names.specs.declared.mention.What.{What}
 use Rattle.js_names.specs.Mentions.{Mention}
-use Rattle.js_names.specs.Slots.{held_by, inside, is_among, joins, first_uses, assigned_in, holdings, slots_of, captures, parameter_in, parameter_at, captures_in, variable_in}
+use Rattle.js_names.specs.Slots.{held_by, inside, is_among, joins, first_uses, assigned_in, holdings, slots_of, captures, parameter_in, parameter_at, captures_in, variable_in, functions_in}
 use Rattle.js_resolver.specs.Variables.{index_in, code_at, capture_slots}
-use Rattle.js_names.specs.Slots.{functions_in}
 use Rattle.js_resolver.proofs.sound.Functions.{captures_in_order}
 use Rattle.js_names.proofs.HeldLemmas.{held-append}
 use Rattle.js_resolver.proofs.sound.Lists.{In, in-first_uses}

@@ -1,5 +1,5 @@
 -- What holds of the scopes of some forms holds of the scopes of each mention in them, if it goes on into each scope that begins there.
-use Rattle.std.proofs.Common.{◌≡◌, ℕ, List, [], ◌∷◌, ◌++◌, sym, subst, Option, Some, None, Bool, true, false, if◌then◌else◌}
+use Rattle.std.proofs.Common.{◌≡◌, ℕ, List, [], ◌∷◌, ◌++◌, sym, subst, Option, Some, None, Bool, true, false, if◌then◌else◌, inl, inr}
 use Rattle.std.specs.Prelude.{is_some}
 use Rattle.js_tree.specs.declared.tree.Name.{Name}
 use Rattle.js_tree.specs.declared.tree.Spot.{Spot}
@@ -14,7 +14,6 @@ use Rattle.js_names.specs.Forms.{is_undefined, is_reserved, object_of, called_bu
 use Rattle.js_names.specs.Unresolved.{Unresolved, one_mention, read_mention, assign_mention, member_mentions, in_function, in_loop, begin_mention, parameter_mentions, declared_role, expr_mentions, form_mentions, exprs_mentions, fields_mentions, perhaps_mentions, declarators_mentions, start_mentions, stmt_mentions, stmt_form_mentions, stmts_mentions}
 use Rattle.js_resolver.proofs.sound.Functions.{begun, begun-append}
 use Rattle.js_resolver.proofs.sound.Lists.{In, in-left, in-right}
-use Rattle.std.proofs.Common.{inl, inr}
 
 -- what goes on into scopes that begin: those of blocks and loops, and those of all functions but f
 pub record IsClosed (P : ℕ → List Scope → Type 0) (f : ℕ) : Type 0 where

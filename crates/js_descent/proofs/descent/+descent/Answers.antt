@@ -14,8 +14,7 @@ use Rattle.js_grammar.specs.Reading.{run, ended_rest}
 use Rattle.js_grammar.specs.Expressions.{operators, operated_step}
 use Rattle.js_grammar.specs.Statements.{start}
 use Rattle.js_grammar.specs.Reader.{readers}
-use Rattle.js_cursor.specs.Read.{left}
-use Rattle.js_cursor.specs.Read.{IsRead, IsExpr}
+use Rattle.js_cursor.specs.Read.{left, IsRead, IsExpr}
 use Rattle.js_descent.proofs.Chains.{operators_missed}
 use Rattle.js_descent.proofs.Stated.{chain_refused, chain_unread, three_stated, evaluates, started, stated_nothing, empty_stated, block_stated}
 use Rattle.js_descent.proofs.descent.+descent.Goals as goal

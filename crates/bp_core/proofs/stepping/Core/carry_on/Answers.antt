@@ -2,9 +2,8 @@ use Rattle.std.proofs.Common.{◌≡◌, ◌∙◌, sym, ap, subst, refl, Some, 
 use Rattle.std.proofs.lemmas.Option.{slice_get-get_or}
 use Rattle.js_meaning.specs.State.{Ground}
 use Rattle.bp_thread.specs.declared.job.Job.{Job}
-use Rattle.bp_thread.specs.Jobs.{IsOf}
+use Rattle.bp_thread.specs.Jobs.{IsOf, Sliced}
 use Rattle.bp_thread.specs.Carried.{Carries}
-use Rattle.bp_thread.specs.Jobs.{Sliced}
 use Rattle.bp_arbiter.specs.Arbiters.{options_in}
 use Rattle.bp_core.proofs.Slices.{is_of_program, cuts}
 use Rattle.std.proofs.lemmas.Result.{err_from_is_err_and}

@@ -1,5 +1,4 @@
-use Rattle.std.proofs.Common.{sym, subst}
-use Rattle.std.proofs.Common.{Vec, Global}
+use Rattle.std.proofs.Common.{sym, subst, Vec, Global}
 use Rattle.bp_thread.specs.declared.job.Job.{Job}
 use Rattle.bp_core.specs.Cores.{CanRunNow}
 use Rattle.bp_core.proofs.Handing.{can_run_now}

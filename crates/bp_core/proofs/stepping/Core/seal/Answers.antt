@@ -1,5 +1,4 @@
-use Rattle.std.proofs.Common.{◌≡◌, ◌≤◌, ◌<◌, ℕ, ◌∙◌, length, true, false, sym, ap, subst, refl, inl, inr}
-use Rattle.std.proofs.Common.{Vec, Global}
+use Rattle.std.proofs.Common.{◌≡◌, ◌≤◌, ◌<◌, ℕ, ◌∙◌, length, true, false, sym, ap, subst, refl, inl, inr, Vec, Global}
 use Rattle.bp_log.specs.declared.limits.TheConstants.{MOST_THREADS}
 use Rattle.bp_thread.specs.declared.job.Job.{Job}
 use Rattle.bp_steps.specs.Steps.{pair_at, settled, sealed}

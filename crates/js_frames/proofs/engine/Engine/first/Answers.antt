@@ -3,11 +3,9 @@ use Rattle.js_value.specs.Views.{plain_value}
 use Rattle.js_ops.specs.Answers.{AnswersAs}
 use Rattle.js_ops.specs.Operators.{unary_of}
 use Rattle.js_frames.specs.Places.{plain_ground, place_of, here}
-use Rattle.js_frames.specs.Fits.{IsDouble}
+use Rattle.js_frames.specs.Fits.{IsDouble, IsShort}
 use Rattle.js_frames.proofs.Steps.{becomes_ok, means_ok, part_is, has_form}
-use Rattle.js_frames.proofs.BeginLemmas.{parts_with, second_waits}
-use Rattle.js_frames.specs.Fits.{IsShort}
-use Rattle.js_frames.proofs.BeginLemmas.{short_only, form_here}
+use Rattle.js_frames.proofs.BeginLemmas.{parts_with, second_waits, short_only, form_here}
 use Rattle.js_frames.proofs.engine.Engine.first.Goals as goal
 
 pub returns-in-Member : goal.returns-in-Member

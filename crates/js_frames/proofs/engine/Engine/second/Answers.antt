@@ -4,9 +4,8 @@ use Rattle.js_meaning.specs.Expressions.{by_rule}
 use Rattle.js_ops.specs.Answers.{AnswersAs}
 use Rattle.js_frames.specs.Places.{plain_ground, place_of, here}
 use Rattle.js_frames.proofs.Steps.{becomes_ok}
-use Rattle.js_frames.proofs.BeginLemmas.{parts_with}
+use Rattle.js_frames.proofs.BeginLemmas.{parts_with, double_only, form_here}
 use Rattle.js_frames.specs.Fits.{IsDouble}
-use Rattle.js_frames.proofs.BeginLemmas.{double_only, form_here}
 use Rattle.js_frames.proofs.engine.Engine.second.Goals as goal
 
 pub returns-in-Index : goal.returns-in-Index
