@@ -3,6 +3,7 @@
 #![tactic(auto)]
 
 ghost use Rattle.std.specs.Prelude.{◌≡◌, [], false, IfOk};
+ghost use Rattle.bp_lanes.specs.declared.TheConstants.{ROOM};
 ghost use Rattle.bp_lanes.specs.Lanes.{offered, free_places, taken, known, is_closed, IsLane};
 
 mod bell;
@@ -15,12 +16,12 @@ use rtrb::RingBuffer;
 use std::alloc::Global;
 
 /// How many items a lane has room for.
-const ROOM: usize = 64;
+pub const ROOM: usize = 64;
 
-/// The two ends of a fresh lane, with room for 64 items.
+/// The two ends of a fresh lane.
 pub fn lane(alloc: Global) -> Result<(Mouth, Ear), Memory>
     ensures ends { IfOk result (λ r. IsLane r.0 r.1) }
-    ensures mouth { IfOk result (λ r. (offered r.0 ≡ []) × (free_places r.0 ≡ 64)) }
+    ensures mouth { IfOk result (λ r. (offered r.0 ≡ []) × (free_places r.0 ≡ ROOM)) }
     ensures ear { IfOk result (λ r. (taken r.1 ≡ []) × (known r.1 ≡ [])) }
     ensures open { IfOk result (λ r. is_closed r.1 ≡ false) }
 {

@@ -2,13 +2,9 @@
 ghost use Rattle.bp_session.specs.inner.Turning.{IsWaiting};
 
 use crate::written::Written;
-use bp_lanes::{Bell, Rope, Wake};
+use bp_lanes::{Bell, ROOM, Rope, Wake};
 use std::sync::Wait;
 use std::thread::Threads;
-
-/// After this many items entered the injectors are woken. A lane has room for as many, and an injector waits
-/// only if its lane is full: so it is woken at the latest when as many items entered as its lane holds.
-const ENOUGH: usize = 64;
 
 /// The rope by which a session and its injectors wake one another, and how many items entered since it was
 /// last rung. A ring wakes all that wait for a place, and one that is woken for a single place soon waits
@@ -41,8 +37,9 @@ impl<'a> Calls<'a> {
         self.rope.wait(rt);
     }
 
-    /// This many items entered, which left as many places free. Who waits for one is woken if they are
-    /// enough, and at once if the session may wait for a source.
+    /// This many items entered, which left as many places free. Who waits for one is woken once as many
+    /// entered as a lane holds, since an injector waits only if its lane is full; and at once if the
+    /// session may wait for a source.
     pub(crate) fn entered<R: Threads + Wait + Sync>(
         &mut self,
         rt: &R,
@@ -50,7 +47,7 @@ impl<'a> Calls<'a> {
         at_once: bool,
     ) {
         self.unrung = self.unrung.saturating_add(count);
-        let enough = if at_once { 1 } else { ENOUGH };
+        let enough = if at_once { 1 } else { ROOM };
         if self.unrung >= enough {
             self.rope.ring(rt);
             self.unrung = 0;
