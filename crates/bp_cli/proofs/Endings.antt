@@ -204,13 +204,13 @@ wanting_note (Some (command.Migrate log)) records before after k h (e, inr d) = 
 wanting_note (Some (command.Large n)) records before after k h (e, inl m) = (tt, inl (refl, m.1))
 wanting_note (Some (command.Large n)) records before after k h (e, inr d) = (tt, inr (large_wanting n records before after k h e d))
 
-concluded_of : (c : Option Command) (records : List Record) (before after : Outside) (k : Conclusion) (code : ℕ) (note : List ℕ) →
-    AsksIn c before.asked after.asked k → EndsIn c records before after k → (IsStatusOf code note k ⊎ ((has_note k ≡ true) × IsStatusOf code note NoMemory)) → Ends c before after code note records
-concluded_of c records before after k code note a e (inl s) = record { conclusion = k; status = s; asks = a; ends = e }
-concluded_of c records before after k code note a e (inr s) =
+concluded_of : (c : Option Command) (records : List Record) (before after : Outside) (k : Conclusion) (status : ℕ) (note : List ℕ) →
+    AsksIn c before.asked after.asked k → EndsIn c records before after k → (IsStatusOf status note k ⊎ ((has_note k ≡ true) × IsStatusOf status note NoMemory)) → Ends c before after status note records
+concluded_of c records before after k status note a e (inl s) = record { conclusion = k; status = s; asks = a; ends = e }
+concluded_of c records before after k status note a e (inr s) =
     record { conclusion = NoMemory; status = s.1; asks = asks_some c before.asked after.asked k a; ends = wanting_note c records before after k s.0 e }
 
 -- the status is that of the conclusion, or says that memory ran out
-pub concluded : (c : Option Command) (records told : List Record) (before after : Outside) (k : Conclusion) (code : ℕ) (note : List ℕ) → told ≡ records →
-    AsksIn c before.asked after.asked k → EndsIn c records before after k → (IsStatusOf code note k ⊎ ((has_note k ≡ true) × IsStatusOf code note NoMemory)) → Ends c before after code note told
-concluded c records told before after k code note r a e s = subst (λ (rs : List Record). Ends c before after code note rs) (sym r) (concluded_of c records before after k code note a e s)
+pub concluded : (c : Option Command) (records told : List Record) (before after : Outside) (k : Conclusion) (status : ℕ) (note : List ℕ) → told ≡ records →
+    AsksIn c before.asked after.asked k → EndsIn c records before after k → (IsStatusOf status note k ⊎ ((has_note k ≡ true) × IsStatusOf status note NoMemory)) → Ends c before after status note told
+concluded c records told before after k status note r a e s = subst (λ (rs : List Record). Ends c before after status note rs) (sym r) (concluded_of c records before after k status note a e s)

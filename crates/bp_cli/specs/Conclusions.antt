@@ -1,4 +1,4 @@
--- How a command ends: the code and the note of each conclusion.
+-- How a command ends: the status and the note of each conclusion.
 use Rattle.std.specs.Prelude.{◌≡◌, ℕ, List, [], codes}
 use Rattle.bp_log.specs.Verdicts.{kind_of}
 use Rattle.bp_log.specs.declared.verdict.VerdictKind.{VerdictKind}
@@ -12,25 +12,25 @@ use Rattle.bp_cli.specs.declared.conclusion.Conclusion.TheVariants.{NoCommand, R
 abbrev pub usage : List ℕ
 usage = codes "usage: bp run [OPTIONS] PROGRAM [INJECTOR]... | bp replay LOG | bp accept PROGRAM | bp large N | bp migrate LOG"
 
--- the code of a run that came to a verdict of this kind
-abbrev pub verdict_code : VerdictKind → ℕ
-verdict_code kind.Quiet = 0
-verdict_code kind.Violated = 3
-verdict_code kind.Fault = 4
-verdict_code kind.Spent = 5
-verdict_code kind.Limit = 6
-verdict_code kind.Bad = 7
+-- the status of a run that came to a verdict of this kind
+abbrev pub verdict_status : VerdictKind → ℕ
+verdict_status kind.Quiet = 0
+verdict_status kind.Violated = 3
+verdict_status kind.Fault = 4
+verdict_status kind.Spent = 5
+verdict_status kind.Limit = 6
+verdict_status kind.Bad = 7
 
-abbrev pub code_of : Conclusion → ℕ
-code_of Accepted = 0
-code_of Migrated = 0
-code_of NoCommand = 1
-code_of (Refused refusal) = 2
-code_of (Ran verdict) = verdict_code (kind_of verdict)
-code_of NotRead = 8
-code_of NotWritten = 9
-code_of NoMemory = 10
-code_of (BadLog fault) = 11
+abbrev pub status_of : Conclusion → ℕ
+status_of Accepted = 0
+status_of Migrated = 0
+status_of NoCommand = 1
+status_of (Refused refusal) = 2
+status_of (Ran verdict) = verdict_status (kind_of verdict)
+status_of NotRead = 8
+status_of NotWritten = 9
+status_of NoMemory = 10
+status_of (BadLog fault) = 11
 
 abbrev pub note_of : Conclusion → List ℕ
 note_of NoCommand = usage
@@ -40,6 +40,6 @@ note_of NotWritten = codes "write fault"
 note_of (BadLog fault) = bad_log_note fault
 note_of _ = []
 
--- the code and the note are those of the conclusion
+-- the status and the note are those of the conclusion
 abbrev pub IsStatusOf : ℕ → List ℕ → Conclusion → Type 0
-IsStatusOf code note conclusion = (code ≡ code_of conclusion) × (note ≡ note_of conclusion)
+IsStatusOf status note conclusion = (status ≡ status_of conclusion) × (note ≡ note_of conclusion)

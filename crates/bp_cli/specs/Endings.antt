@@ -63,10 +63,10 @@ EndsIn (Some command) records before after conclusion =
     × ((IsEarly command conclusion × DoesNothing records before after)
     ⊎ Does command records before after conclusion)
 
--- the code and the note are those of a conclusion in which the command ends, and for which it asks
-pub record Ends (command : Option Command) (before after : Outside) (code : ℕ) (note : List ℕ)
+-- status and note are those of a conclusion in which the command ends, and for which it asks
+pub record Ends (command : Option Command) (before after : Outside) (exit : ℕ) (note : List ℕ)
     (records : List Record) : Type 0 where
   pub conclusion : Conclusion
-  pub status : IsStatusOf code note conclusion
+  pub status : IsStatusOf exit note conclusion
   pub asks : AsksIn command before.asked after.asked conclusion
   pub ends : EndsIn command records before after conclusion

@@ -18,10 +18,11 @@ program_of (Run asked) = Some asked.program
 program_of (Accept program) = Some program
 program_of _ = None
 
--- where the world tells that the program is refused, the code is 2, unless reading failed or memory
--- ran out
+-- where the world tells that the program is refused, the status is 2, unless reading failed or
+-- memory ran out
 abbrev pub Refuses : Option Command → Option Holdings → ℕ → Type 0
-Refuses command holds code =
+Refuses command holds status =
     IfSome holds (λ held. IfSome (option_and_then program_of command)
     (λ name. IfSome (held name) (λ bytes.
-    (refusal : Refusal) → IsRefused bytes refusal → (code ≡ 2) ⊎ ((code ≡ 8) ⊎ (code ≡ 10)))))
+    (refusal : Refusal) → IsRefused bytes refusal →
+    (status ≡ 2) ⊎ ((status ≡ 8) ⊎ (status ≡ 10)))))

@@ -1,6 +1,6 @@
 //! How a command ends.
 ghost use Rattle.std.specs.Prelude.{◌≡◌, true, IfOk, OnErr, unwrap_or};
-ghost use Rattle.bp_cli.specs.Conclusions.{code_of, note_of, verdict_code};
+ghost use Rattle.bp_cli.specs.Conclusions.{status_of, note_of, verdict_status};
 ghost use Rattle.bp_cli.specs.inner.Outcomes.{has_note, conclusion_of, ended_of, unopened_of, unmade_of};
 ghost use Rattle.bp_cli.specs.Replaying.{trouble_of as trouble_in, replayed_of};
 ghost use Rattle.bp_cli.specs.Migrating.{as_replayed, migrated_of};
@@ -16,7 +16,7 @@ use bp_session::Ending;
 use js_data::Text;
 use std::alloc::Global;
 
-/// The code of a command that ran out of memory.
+/// The status of a command that ran out of memory.
 pub const NO_MEMORY: u8 = 10;
 
 /// The note for words that are not a command.
@@ -81,9 +81,9 @@ impl From<ScriptFault> for Conclusion {
     }
 }
 
-/// The code of a run that came to a verdict of this kind.
-fn verdict_code(kind: VerdictKind) -> u8
-    ensures { result ≡ verdict_code kind }
+/// The status of a run that came to a verdict of this kind.
+fn verdict_status(kind: VerdictKind) -> u8
+    ensures { result ≡ verdict_status kind }
 {
     match kind {
         VerdictKind::Quiet => 0,
@@ -187,15 +187,15 @@ impl Conclusion {
         }
     }
 
-    /// Its code for the system, from 0 to 11.
-    pub(crate) fn code(&self) -> u8
-        ensures { result ≡ code_of self.now }
+    /// Its exit status, from 0 to 11.
+    pub(crate) fn status(&self) -> u8
+        ensures { result ≡ status_of self.now }
     {
         match self {
             Conclusion::Accepted | Conclusion::Migrated => 0,
             Conclusion::NoCommand => 1,
             Conclusion::Refused(_) => 2,
-            Conclusion::Ran(verdict) => verdict_code(verdict.kind()),
+            Conclusion::Ran(verdict) => verdict_status(verdict.kind()),
             Conclusion::NotRead => 8,
             Conclusion::NotWritten => 9,
             Conclusion::NoMemory => NO_MEMORY,

@@ -12,7 +12,7 @@ use std::alloc::Global;
 /// What a command ends with.
 #[derive(Drop)]
 pub struct Status {
-    /// The code for the system, from 0 to 11.
+    /// The exit status, from 0 to 11.
     pub code: u8,
     /// The note for standard error, which may be empty.
     pub note: Text,
@@ -35,12 +35,12 @@ impl Status {
         } = ended;
         match conclusion.note(alloc) {
             Ok(note) => Status {
-                code: conclusion.code(),
+                code: conclusion.status(),
                 note,
                 records,
             },
             Err(_) => Status {
-                code: Conclusion::NoMemory.code(),
+                code: Conclusion::NoMemory.status(),
                 note: Text::new(String::new(alloc)),
                 records,
             },

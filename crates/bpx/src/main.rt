@@ -22,7 +22,7 @@ fn words_of(rt: &HostRuntime) -> io::Result<Vec<String>> {
     Ok(words)
 }
 
-/// Answers what the words ask for, shows the note of the end, and ends with its code.
+/// Answers what the words ask for, shows the note of the end, and ends with its status.
 fn main(rt: HostRuntime) -> ExitCode {
     let Ok(words) = words_of(&rt) else {
         return ExitCode::from(NO_MEMORY);
@@ -40,5 +40,5 @@ fn main(rt: HostRuntime) -> ExitCode {
     if !note.is_empty() {
         let _ = eprintln!(rt; "{note}");
     }
-    ExitCode::from(end.code())
+    ExitCode::from(end.status())
 }

@@ -1,6 +1,6 @@
 pub mod Logs
 pub mod States
+pub mod Statuses
 pub mod Whys
 pub mod Answers
-pub mod Codes
 pub mod inner

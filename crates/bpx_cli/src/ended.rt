@@ -1,6 +1,6 @@
 //! How a command ends.
 ghost use Rattle.std.specs.Prelude.{◌≡◌, IfOk};
-ghost use Rattle.bpx_cli.specs.Codes.{code_of, note_of};
+ghost use Rattle.bpx_cli.specs.Statuses.{note_of, status_of};
 ghost use Rattle.bpx_cli.specs.inner.Ends.{ended_of_log};
 ghost use Rattle.bpx_cli.specs.Logs.{trouble_of};
 
@@ -14,7 +14,7 @@ use bpx_words::USAGE;
 use js_data::Text;
 use std::alloc::Global;
 
-/// The code of a command that ran out of memory.
+/// The status of a command that ran out of memory.
 pub const NO_MEMORY: u8 = 10;
 
 /// A text, and how the command ends that prints it.
@@ -79,9 +79,9 @@ impl Ended {
         }
     }
 
-    /// Its code for the system: from 0 to 2, or from 8 to 13.
-    pub fn code(&self) -> u8
-        ensures { result ≡ code_of self.now }
+    /// Its exit status: from 0 to 2, or from 8 to 13.
+    pub fn status(&self) -> u8
+        ensures { result ≡ status_of self.now }
     {
         match self {
             Ended::Answered => 0,

@@ -55,7 +55,7 @@ fn holds<R: Threads + Sync>(rt: &R, alloc: Global, script: &str, row: &str) -> R
     let said = said_in(rt, alloc, words.as_str(), script, &[], &[])?;
     let mut wanted = told.replace(alloc, " | ", "\n")?;
     wanted.push_str("\n")?;
-    Ok(said.code == 0 && said.note.is_empty() && said.printed == wanted)
+    Ok(said.status == 0 && said.note.is_empty() && said.printed == wanted)
 }
 
 #[test]
@@ -82,12 +82,12 @@ fn what_has_no_seeds_is_refused(rt: HostRuntime) -> Result<(), Fail> {
         "seeds script.js 0 1 --log run.log",
     ] {
         let said = said_in(&rt, alloc, words, "", &[], &[])?;
-        assert!(rt; said.code == 12 && said.printed.is_empty(), "{words}");
+        assert!(rt; said.status == 12 && said.printed.is_empty(), "{words}");
     }
     let refused = said_in(&rt, alloc, "seeds script.js 0 1", "a", &[], &[])?;
-    assert!(rt; refused.code == 2 && refused.printed.is_empty());
+    assert!(rt; refused.status == 2 && refused.printed.is_empty());
     assert_eq!(rt; refused.note.as_str(), "refused line 1: unknown a");
     let absent = said_in(&rt, alloc, "seeds other.js 0 1", "", &[], &[])?;
-    assert!(rt; absent.code == 8 && absent.printed.is_empty());
+    assert!(rt; absent.status == 8 && absent.printed.is_empty());
     Ok(())
 }

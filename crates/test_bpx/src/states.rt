@@ -56,7 +56,7 @@ pub fn prints<R: Threads + Sync>(
     text: &str,
 ) -> Result<bool, Fail> {
     let said = said_of(rt, alloc, words, &[("run.log", log)], &[], &[])?;
-    Ok(said.code == 0 && said.note.is_empty() && said.printed.as_str() == text)
+    Ok(said.status == 0 && said.note.is_empty() && said.printed.as_str() == text)
 }
 
 #[test]
@@ -68,17 +68,17 @@ fn states_are_told(rt: HostRuntime) -> Result<(), Fail> {
     Ok(())
 }
 
-/// Whether of such a log nothing is printed, and the end has this code and this note.
+/// Whether of such a log nothing is printed, and the end has this status and this note.
 pub fn ends_with<R: Threads + Sync>(
     rt: &R,
     alloc: Global,
     words: &str,
     log: &str,
-    code: u8,
+    status: u8,
     note: &str,
 ) -> Result<bool, Fail> {
     let said = said_of(rt, alloc, words, &[("run.log", log)], &[], &[])?;
-    Ok(said.code == code && said.note.as_str() == note && said.printed.is_empty())
+    Ok(said.status == status && said.note.as_str() == note && said.printed.is_empty())
 }
 
 #[test]
@@ -109,6 +109,6 @@ fn logs_without_a_state_are_refused(rt: HostRuntime) -> Result<(), Fail> {
     let note = "bad log: record 1 expected sel [\"hot\"] found sel [\"cold\"]";
     assert!(rt; ends_with(&rt, alloc, "state run.log", other.as_str(), 11, note)?);
     let unread = said_of(&rt, alloc, "state run.log", &[("run.log", LOG)], &[1], &[])?;
-    assert_eq!(rt; unread.code, 8);
+    assert_eq!(rt; unread.status, 8);
     Ok(())
 }

@@ -32,36 +32,37 @@ fn holds<R: Threads + Sync>(rt: &R, alloc: Global, row: &str) -> Result<bool, Fa
     let script = row.script.replace(alloc, "\\n", "\n")?;
     let said = said_in(rt, alloc, "check script.js", script.as_str(), &[], &[])?;
     if row.bp.starts_with("refused") {
-        return Ok(said.code == 2 && said.note.as_str() == row.bp && said.printed.is_empty());
+        return Ok(said.status == 2 && said.note.as_str() == row.bp && said.printed.is_empty());
     }
     if row.bpx.is_empty() {
-        return Ok(said.code == 0 && said.printed.is_empty());
+        return Ok(said.status == 0 && said.printed.is_empty());
     }
     let mut wanted = row.bpx.trim().replace(alloc, " | ", "\n")?;
     wanted.push_str("\n")?;
-    Ok(said.code == 1 && said.note.is_empty() && said.printed == wanted)
+    Ok(said.status == 1 && said.note.is_empty() && said.printed == wanted)
 }
 
 #[test]
 fn mistakes_are_found(rt: HostRuntime) -> Result<(), Fail> {
     let alloc = rt.alloc();
-    for row in MISTAKES.trim().split("\n") {
+    let rows = MISTAKES.trim().replace(alloc, "\n    ", " ")?;
+    for row in rows.as_str().split("\n") {
         assert!(rt; holds(&rt, alloc, row)?, "{row}");
     }
     Ok(())
 }
 
-/// Whether the end has this code and this note, and nothing was printed.
+/// Whether the end has this status and this note, and nothing was printed.
 fn ends_with<R: Threads + Sync>(
     rt: &R,
     alloc: Global,
     words: &str,
     script: &str,
-    code: u8,
+    status: u8,
     note: &str,
 ) -> Result<bool, Fail> {
     let said = said_in(rt, alloc, words, script, &[], &[])?;
-    Ok(said.code == code && said.note.as_str() == note && said.printed.is_empty())
+    Ok(said.status == status && said.note.as_str() == note && said.printed.is_empty())
 }
 
 #[test]
@@ -90,7 +91,7 @@ fn what_is_no_check_is_refused(rt: HostRuntime) -> Result<(), Fail> {
 #[test]
 fn help_is_printed(rt: HostRuntime) -> Result<(), Fail> {
     let said = said_in(&rt, rt.alloc(), "--help", "", &[], &[])?;
-    assert_eq!(rt; said.code, 0);
+    assert_eq!(rt; said.status, 0);
     assert!(rt;
         said.printed.as_str().starts_with("bpx check PROGRAM\n"),
         "{said:?}"
@@ -106,9 +107,9 @@ fn help_is_printed(rt: HostRuntime) -> Result<(), Fail> {
 fn failing_calls_are_told(rt: HostRuntime) -> Result<(), Fail> {
     let alloc = rt.alloc();
     let unread = said_in(&rt, alloc, "check script.js", "1 / 0", &[1], &[])?;
-    assert_eq!(rt; unread.code, 8);
+    assert_eq!(rt; unread.status, 8);
     let unwritten = said_in(&rt, alloc, "check script.js", "1 / 0", &[], &[1])?;
-    assert_eq!(rt; unwritten.code, 9);
+    assert_eq!(rt; unwritten.status, 9);
     assert_eq!(rt; unwritten.note.as_str(), "write fault");
     assert!(rt; unwritten.printed.is_empty());
     Ok(())

@@ -144,12 +144,12 @@ fn refuses<R: Threads + Sync>(
     rt: &R,
     alloc: Global,
     log: &str,
-    code: u8,
+    status: u8,
     note: &str,
 ) -> Result<bool, Fail> {
     Ok(
-        ends_with(rt, alloc, "why run.log 1", log, code, note)?
-            && ends_with(rt, alloc, "why run.log [\"hot\"]", log, code, note)?,
+        ends_with(rt, alloc, "why run.log 1", log, status, note)?
+            && ends_with(rt, alloc, "why run.log [\"hot\"]", log, status, note)?,
     )
 }
 
@@ -190,9 +190,9 @@ fn failing_calls_are_told(rt: HostRuntime) -> Result<(), Fail> {
     let alloc = rt.alloc();
     let held = [("run.log", LOG)];
     let unread = said_of(&rt, alloc, "why run.log 1", &held, &[1], &[])?;
-    assert_eq!(rt; unread.code, 8);
+    assert_eq!(rt; unread.status, 8);
     let unwritten = said_of(&rt, alloc, "why run.log 1", &held, &[], &[1])?;
-    assert_eq!(rt; unwritten.code, 9);
+    assert_eq!(rt; unwritten.status, 9);
     assert!(rt; unwritten.printed.is_empty());
     Ok(())
 }

@@ -9,8 +9,8 @@ use std::thread::Threads;
 /// What was answered.
 #[derive(Debug, Drop)]
 pub struct Said {
-    /// The code of the end.
-    pub code: u8,
+    /// The status of the end.
+    pub status: u8,
     /// The note of the end.
     pub note: String,
     /// What was printed.
@@ -39,7 +39,7 @@ pub fn said_of<R: Threads + Sync>(
     let end = answer(rt, alloc, &all, &mut world, &mut out);
     let printed = std::str::from_utf8(out.written()).or(Err("no text"))?;
     Ok(Said {
-        code: end.code(),
+        status: end.status(),
         note: end.note(alloc)?.into_string(),
         printed: printed.to_string(alloc)?,
     })

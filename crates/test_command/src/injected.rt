@@ -48,7 +48,7 @@ fn ran_in<R: Threads + Wait + Sync>(
     let mut out = MemorySink::new(alloc, 1_000_000, [held.output].to_vec(alloc)?)?;
     let status = command(rt, alloc, &words, &mut world, &mut out);
     Ok(Ran {
-        code: status.code,
+        status: status.code,
         note: status.note.as_str().to_string(alloc)?,
         printed: out.written().to_vec(alloc)?,
         log: world.held("log").unwrap_or(b"").to_vec(alloc)?,
@@ -77,20 +77,20 @@ fn is_told_in_each<R: Threads + Wait + Sync>(
     for text in [if waits { first.as_str() } else { second }, second] {
         let again = replayed(rt, alloc, text.as_bytes())?;
         let migrated = ran_in(rt, alloc, "migrate|l", holding(&[("l", text)]))?;
-        if !again.came_to(ran.code, "", &ran.printed) || !migrated.came_to(0, "", &ran.log) {
+        if !again.came_to(ran.status, "", &ran.printed) || !migrated.came_to(0, "", &ran.log) {
             return Ok(false);
         }
     }
     Ok(waits || second.contains("\nwait no\nprogram "))
 }
 
-/// The words print this with this code, whatever the workers and the slices, and the log replays it.
+/// The words print this with this status, whatever the workers and the slices, and the log replays it.
 fn prints<R: Threads + Wait + Sync + Abort>(
     rt: &R,
     alloc: Global,
     line: &str,
     files: &[(&str, &str)],
-    code: u8,
+    status: u8,
     text: &str,
 ) -> Result<(), Fail> {
     for more in [
@@ -101,7 +101,7 @@ fn prints<R: Threads + Wait + Sync + Abort>(
     ] {
         let line = format!(in alloc; "{line}|--log=log{more}")?;
         let ran = ran_in(rt, alloc, line.as_str(), holding(files))?;
-        assert!(rt; ran.came_to(code, "", text.as_bytes()), "{line}");
+        assert!(rt; ran.came_to(status, "", text.as_bytes()), "{line}");
         assert!(rt; is_told_in_each(rt, alloc, &ran)?, "{line}");
     }
     Ok(())
@@ -226,7 +226,7 @@ fn two_injectors_merge_and_the_log_replays_the_merge(rt: HostRuntime) -> Result<
         let line = format!(in alloc; "run|p|a|b|--log=log{more}")?;
         let ran = ran_in(&rt, alloc, line.as_str(), holding(&TWO))?;
         assert!(rt;
-            ran.code == 0 && merged(&ran.printed) == Some(true),
+            ran.status == 0 && merged(&ran.printed) == Some(true),
             "{line}"
         );
         assert!(rt; is_told_in_each(&rt, alloc, &ran)?, "{line}");
@@ -234,18 +234,21 @@ fn two_injectors_merge_and_the_log_replays_the_merge(rt: HostRuntime) -> Result<
     Ok(())
 }
 
-/// A run of the two with a log, in which these calls fail, ends with this code and this note, and prints a
+/// A run of the two with a log, in which these calls fail, ends with this status and this note, and prints a
 /// front of a merge without its verdict.
 fn breaks<R: Threads + Wait + Sync + Abort>(
     rt: &R,
     alloc: Global,
     held: Held<'_>,
-    code: u8,
+    status: u8,
     note: &str,
 ) -> Result<Ran, Fail> {
     let ran = ran_in(rt, alloc, "run|p|a|b|--log=log", held)?;
-    assert!(rt; ran.code == code && ran.note.as_str() == note, "{code}");
-    assert!(rt; merged(&ran.printed) == Some(false), "{code}");
+    assert!(rt;
+        ran.status == status && ran.note.as_str() == note,
+        "{status}"
+    );
+    assert!(rt; merged(&ran.printed) == Some(false), "{status}");
     Ok(ran)
 }
 
@@ -318,7 +321,7 @@ fn each_write_of_the_run_fails(rt: HostRuntime) -> Result<(), Fail> {
             let ended = merged(&ran.printed).ok_or("no front of a merge")?;
             let note = ran.note.as_str();
             assert!(rt;
-                ran.code == 9 && note == "write fault" || ran.code == 0 && ended,
+                ran.status == 9 && note == "write fault" || ran.status == 0 && ended,
                 "{call}"
             );
         }
@@ -344,7 +347,7 @@ fn each_read_of_each_injector_fails(rt: HostRuntime) -> Result<(), Fail> {
             ..holding(&TWO)
         };
         let ran = ran_in(&rt, alloc, "run|p|a|b", held)?;
-        assert!(rt; ran.code == 0 && merged(&ran.printed) == Some(true));
+        assert!(rt; ran.status == 0 && merged(&ran.printed) == Some(true));
     }
     Ok(())
 }
@@ -365,7 +368,7 @@ fn each_of_three_injectors_fails(rt: HostRuntime) -> Result<(), Fail> {
             };
             let ran = ran_in(&rt, alloc, "run|p|a|b|c|--log=log", held)?;
             assert!(rt;
-                ran.code == 8 && ran.note.as_str() == "read fault",
+                ran.status == 8 && ran.note.as_str() == "read fault",
                 "{name} {call}"
             );
             let again = replayed(&rt, alloc, &ran.log)?;
@@ -449,7 +452,7 @@ fn two_hundred_cars_cross(rt: HostRuntime) -> Result<(), Fail> {
     let (cars, lights) = crossing_lines(alloc)?;
     let ran = crossed(&rt, alloc, cars.as_str(), lights.as_str())?;
     let text = str::from_utf8(&ran.printed).ok().ok_or("no text")?;
-    assert_eq!(rt; ran.code, 0);
+    assert_eq!(rt; ran.status, 0);
     assert_eq!(rt; text.lines().count(), 641);
     assert!(rt; text.ends_with("\nverdict quiet 440\n"));
     assert!(rt; replayed(&rt, alloc, &ran.log)?.came_to(0, "", &ran.printed));
@@ -469,7 +472,7 @@ fn a_run_that_does_not_wait_takes_what_is_there(rt: HostRuntime) -> Result<(), F
         let quiet = format!(in alloc; "quiet {}\n", told.lines().count())?;
         let log = str::from_utf8(&ran.log).ok().ok_or("no text")?;
         assert!(rt;
-            ran.code == 0 && verdict == quiet.as_str() && merged(told.as_bytes()).is_some(),
+            ran.status == 0 && verdict == quiet.as_str() && merged(told.as_bytes()).is_some(),
             "{line}"
         );
         assert!(rt; log.contains("\ninjectors 2\nwait no\nprogram "), "{line}");

@@ -125,7 +125,7 @@ fn a_run_keeps_its_log_and_the_log_replays_it(rt: HostRuntime) -> Result<(), Fai
     let words = "run|--log|log|--seed=7|script.js";
     let ran = run_with(&rt, alloc, words, DRAWN.as_bytes(), NONE)?;
     let again = run_with(&rt, alloc, "replay|script.js", &ran.log, NONE)?;
-    assert!(rt; ran.code == 0 && again.code == 0);
+    assert!(rt; ran.status == 0 && again.status == 0);
     assert!(rt; again.printed == ran.printed);
     assert!(rt;
         ran.log

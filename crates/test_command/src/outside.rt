@@ -26,9 +26,9 @@ fn a_write_that_fails_leaves_a_prefix(rt: HostRuntime) -> Result<(), Fail> {
         );
         let is_whole = printed.len() == TAKING_TURNS.len();
         let ended = if is_whole {
-            number > 1 && ran.code == 0 && ran.note.as_str() == ""
+            number > 1 && ran.status == 0 && ran.note.as_str() == ""
         } else {
-            ran.code == 9 && ran.note.as_str() == "write fault"
+            ran.status == 9 && ran.note.as_str() == "write fault"
         };
         assert!(rt; ended, "write {number}");
     }

@@ -31,10 +31,10 @@ fn come_to<R: Threads + Wait + Sync>(
     script: &[u8],
     want: (u8, &str, &[u8]),
 ) -> Result<bool, Fail> {
-    let (code, note, printed) = want;
+    let (status, note, printed) = want;
     for words in commands.split(" & ") {
         let ran = run_with(rt, alloc, words, script, NONE)?;
-        if !ran.came_to(code, note, printed) {
+        if !ran.came_to(status, note, printed) {
             return Ok(false);
         }
     }
@@ -43,26 +43,26 @@ fn come_to<R: Threads + Wait + Sync>(
 
 fn run_holds<R: Threads + Wait + Sync>(rt: &R, alloc: Global, row: &str) -> Result<bool, Fail> {
     let (commands, rest) = row.split_once(" --> ").ok_or("no status")?;
-    let (code, rest) = rest.split_once(" ").ok_or("no script")?;
+    let (status, rest) = rest.split_once(" ").ok_or("no script")?;
     let (script, told) = rest.split_once("==> ").ok_or("no trace")?;
-    let code = code.parse::<u8>()?;
+    let status = status.parse::<u8>()?;
     let script = bytes_of(alloc, script.trim())?;
     if let Some(note) = told.strip_prefix("! ") {
-        return come_to(rt, alloc, commands, &script, (code, note, b""));
+        return come_to(rt, alloc, commands, &script, (status, note, b""));
     }
     let printed = bytes_of(alloc, told.replace(alloc, ";", "\n")?.as_str())?;
-    come_to(rt, alloc, commands, &script, (code, "", &printed))
+    come_to(rt, alloc, commands, &script, (status, "", &printed))
 }
 
 fn trace_holds<R: Threads + Wait + Sync>(rt: &R, alloc: Global, row: &str) -> Result<bool, Fail> {
     let (front, rest) = row.split_once(" --> ").ok_or("no status")?;
     let (front, commands) = front.rsplit_once("\n").ok_or("no words")?;
     let (_, script) = front.split_once("\n").unwrap_or(("", ""));
-    let (code, trace) = rest.split_once("\n").ok_or("no trace")?;
-    let code = code.parse::<u8>()?;
+    let (status, trace) = rest.split_once("\n").ok_or("no trace")?;
+    let status = status.parse::<u8>()?;
     let mut printed = String::from_str(alloc, trace)?;
     printed.push_str("\n")?;
-    let want = (code, "", printed.as_bytes());
+    let want = (status, "", printed.as_bytes());
     come_to(rt, alloc, commands, script.as_bytes(), want)
 }
 

@@ -12,7 +12,7 @@ use std::thread::Threads;
 /// What a command did.
 #[derive(Debug, Drop)]
 pub struct Ran {
-    pub code: u8,
+    pub status: u8,
     pub note: String,
     pub printed: Vec<u8>,
     /// What is held as `log` afterwards; of no bytes where nothing is.
@@ -21,8 +21,8 @@ pub struct Ran {
 
 impl Ran {
     /// Whether the command ended with this status and this note, and printed this.
-    pub fn came_to(&self, code: u8, note: &str, printed: &[u8]) -> bool {
-        self.code == code && self.note.as_str() == note && self.printed.as_slice() == printed
+    pub fn came_to(&self, status: u8, note: &str, printed: &[u8]) -> bool {
+        self.status == status && self.note.as_str() == note && self.printed.as_slice() == printed
     }
 }
 
@@ -58,7 +58,7 @@ pub fn run_words<R: Threads + Wait + Sync>(
     let mut out = MemorySink::new(alloc, 4_000_000, fails.output.to_vec(alloc)?)?;
     let status = command(rt, alloc, words, &mut world, &mut out);
     Ok(Ran {
-        code: status.code,
+        status: status.code,
         note: status.note.as_str().to_string(alloc)?,
         printed: out.written().to_vec(alloc)?,
         log: world.held("log").unwrap_or(b"").to_vec(alloc)?,
@@ -94,9 +94,9 @@ pub fn tells<R: Threads + Wait + Sync + Abort>(
     script: &[u8],
     want: (u8, &str, &str),
 ) -> Result<(), Fail> {
-    let (code, note, printed) = want;
+    let (status, note, printed) = want;
     let ran = run_with(rt, alloc, words, script, NONE)?;
-    assert!(rt; ran.came_to(code, note, printed.as_bytes()), "{words}");
+    assert!(rt; ran.came_to(status, note, printed.as_bytes()), "{words}");
     Ok(())
 }
 
@@ -106,10 +106,10 @@ pub fn fails_with<R: Threads + Wait + Sync + Abort>(
     alloc: Global,
     words: &str,
     script: &[u8],
-    code: u8,
+    status: u8,
     note: &str,
 ) -> Result<(), Fail> {
-    tells(rt, alloc, words, script, (code, note, ""))
+    tells(rt, alloc, words, script, (status, note, ""))
 }
 
 /// The bytes of a cell, in which `\n` stands for a line end, `%` and two digits for a byte, and `«N TEXT»` for so many

@@ -63,8 +63,8 @@ fn bytes_of(alloc: Global, cell: &str) -> Result<Vec<u8>, Fail> {
 fn holds<R: Threads + Wait + Sync>(rt: &R, alloc: Global, row: &str) -> Result<bool, Fail> {
     let (script, rest) = row.split_once(" <-- ").ok_or("no injector")?;
     let (lines, rest) = rest.split_once(" --> ").ok_or("no status")?;
-    let (code, text) = rest.split_once(" ==> ").ok_or("no text")?;
-    let code = code.parse::<u8>()?;
+    let (status, text) = rest.split_once(" ==> ").ok_or("no text")?;
+    let status = status.parse::<u8>()?;
     let lines = bytes_of(alloc, lines)?;
     let text = bytes_of(alloc, text)?;
     let came = run_over(
@@ -75,7 +75,7 @@ fn holds<R: Threads + Wait + Sync>(rt: &R, alloc: Global, row: &str) -> Result<b
         0,
     )?;
     let again = run_over(rt, alloc, "replay|p", (&came.log, b""), 0)?;
-    Ok(came.came_to(code, "", &text) && again.came_to(code, "", &text))
+    Ok(came.came_to(status, "", &text) && again.came_to(status, "", &text))
 }
 
 /// Each row of the table holds. A line that is indented goes on with the one before.

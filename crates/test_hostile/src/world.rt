@@ -20,8 +20,8 @@ pub struct Ran {
 
 impl Ran {
     /// Whether the command ended with this status and this note, and printed this.
-    pub fn came_to(&self, code: u8, note: &str, printed: &[u8]) -> bool {
-        self.status.code == code
+    pub fn came_to(&self, status: u8, note: &str, printed: &[u8]) -> bool {
+        self.status.code == status
             && self.status.note.as_str() == note
             && self.printed.as_slice() == printed
     }

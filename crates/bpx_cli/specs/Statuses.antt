@@ -1,4 +1,4 @@
--- Codes and notes.
+-- Statuses and notes.
 use Rattle.std.specs.Prelude.{ℕ, List, [], codes}
 use Rattle.bp_notes.specs.Notes.{bad_log_note}
 use Rattle.bp_script.specs.Refusals.{note_of as refusal_note}
@@ -6,16 +6,16 @@ use Rattle.bpx_cli.specs.declared.ended.Ended.{Ended}
 use Rattle.bpx_cli.specs.declared.ended.Ended.TheVariants.{Answered, Found, NoCommand, Refused, Absent, NotRead, NotWritten, NoMemory, BadLog}
 use Rattle.bpx_words.specs.declared.help.TheConstants.{USAGE}
 
-abbrev pub code_of : Ended → ℕ
-code_of Answered = 0
-code_of Found = 1
-code_of (Refused refusal) = 2
-code_of Absent = 13
-code_of NotRead = 8
-code_of NotWritten = 9
-code_of NoMemory = 10
-code_of (BadLog fault) = 11
-code_of NoCommand = 12
+abbrev pub status_of : Ended → ℕ
+status_of Answered = 0
+status_of Found = 1
+status_of (Refused refusal) = 2
+status_of Absent = 13
+status_of NotRead = 8
+status_of NotWritten = 9
+status_of NoMemory = 10
+status_of (BadLog fault) = 11
+status_of NoCommand = 12
 
 abbrev pub note_of : Ended → List ℕ
 note_of Answered = []
