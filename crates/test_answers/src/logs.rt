@@ -8,7 +8,8 @@ use std::test::Fail;
 pub fn first(alloc: Global, program: &str, injectors: u32, records: &str) -> Result<String, Fail> {
     let size = program.len();
     Ok(format!(in alloc;
-        "bp-log 1\nstrategy simple\nseed 0\nbudget 1000000\nsteps 100000\ninjectors {injectors}\nprogram {size}\n{program}\n{records}"
+        "bp-log 1\nstrategy simple\nseed 0\nbudget 1000000\nsteps 100000\ninjectors {injectors}\n\
+program {size}\n{program}\n{records}"
     )?)
 }
 
@@ -16,7 +17,8 @@ pub fn first(alloc: Global, program: &str, injectors: u32, records: &str) -> Res
 pub fn second(alloc: Global, program: &str, injectors: u32, records: &str) -> Result<String, Fail> {
     let size = program.len();
     Ok(format!(in alloc;
-        "bp-log 2\nstrategy simple\nseed 0\nbudget 1000000\nsteps 100000\ninjectors {injectors}\nwait yes\nprogram {size}\n{program}\n{records}"
+        "bp-log 2\nstrategy simple\nseed 0\nbudget 1000000\nsteps 100000\ninjectors {injectors}\n\
+wait yes\nprogram {size}\n{program}\n{records}"
     )?)
 }
 

@@ -119,5 +119,6 @@ bp.registerBThread(\"Req: no throttle after brake\", function () {
   }
 });
 
-for (let e of [on, bp.Event(\"speed\", 80), set, bp.Event(\"speed\", 77), bp.Event(\"speed\", 80), brake, bp.Event(\"speed\", 60)]) bp.enqueueExternalEvent(e);
+for (let e of [on, bp.Event(\"speed\", 80), set, bp.Event(\"speed\", 77), bp.Event(\"speed\", 80), brake,
+  bp.Event(\"speed\", 60)]) bp.enqueueExternalEvent(e);
 ";

@@ -16,7 +16,9 @@ bp.registerBThread("B", () => {
 })
 bp.registerBThread("C", () => { bp.sync({waitFor: bp.Event("x")}); bp.log.info("got") })
 --
-pick t pick pick t pick t pick pick pick --> waits; external ["t"]; waits; external ["t"]; external ["t"]; done "B"; external ["x"]; log "C" "got"; done "C"; external ["x"]; --> in sel in sel in sel sel sel
+pick t pick pick t pick t pick pick pick
+    --> waits; external ["t"]; waits; external ["t"]; external ["t"]; done "B"; external ["x"]; log "C" "got";
+    done "C"; external ["x"]; --> in sel in sel in sel sel sel
 
 for (let i = 0; i < 40; i++) bp.enqueueExternalEvent(bp.Event("x"))
 const held = name => bp.EventSet("held", e => e.name === name)
@@ -46,7 +48,9 @@ bp.registerBThread("A", () => {
 })
 bp.registerBThread("B", () => { bp.sync({waitFor: bp.Event("u"), block: bp.Event("x")}) })
 --
-t pick pick pick u pick pick --> external ["t"]; event ["r"]; waits; external ["u"]; done "A"; done "B"; external ["x"]; --> in sel sel in sel sel
+t pick pick pick u pick pick
+    --> external ["t"]; event ["r"]; waits; external ["u"]; done "A"; done "B"; external ["x"];
+    --> in sel sel in sel sel
 "#;
 
 #[test]

@@ -44,11 +44,13 @@ fn row_holds(alloc: Global, rows: Rows, script: &str, row: &str) -> Result<bool,
     }
 }
 
-/// Each row of the table holds: a program, a line `--`, and its rows. Between programs stands an empty line.
+/// Each row of the table holds: a program, a line `--`, and its rows, of which a line that begins with four spaces goes on with the
+/// one before it. Between programs stands an empty line.
 pub fn agree(rt: &impl Abort, alloc: Global, rows: Rows, table: &str) -> Result<(), Fail> {
     for part in table.trim().split("\n\n") {
         let (script, told) = part.split_once("\n--\n").ok_or("no rows")?;
-        for row in told.split("\n") {
+        let told = told.replace(alloc, "\n    ", " ")?;
+        for row in told.as_str().split("\n") {
             assert!(rt; row_holds(alloc, rows, script, row)?, "{script}\n{row}");
         }
     }

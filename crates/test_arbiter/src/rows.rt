@@ -6,8 +6,12 @@ const STEPS: &str = r#"
 bp.registerBThread("B", () => { bp.sync({waitFor: bp.Event("go"), block: bp.Event("x")}) })
 bp.registerBThread("C", () => { bp.sync({waitFor: bp.Event("x")}); bp.log.info("got") })
 --
-x go end pick pick pick --> external ["go"]; done "B"; external ["x"]; log "C" "got"; done "C"; verdict quiet 2; --> in in eof sel sel end
-x pick go pick pick pick end pick --> waits; external ["go"]; done "B"; external ["x"]; log "C" "got"; done "C"; waits; verdict quiet 2; --> in in sel sel eof end
+x go end pick pick pick
+    --> external ["go"]; done "B"; external ["x"]; log "C" "got"; done "C"; verdict quiet 2;
+    --> in in eof sel sel end
+x pick go pick pick pick end pick
+    --> waits; external ["go"]; done "B"; external ["x"]; log "C" "got"; done "C"; waits; verdict quiet 2;
+    --> in in sel sel eof end
 
 bp.registerBThread("A", () => { bp.sync({waitFor: bp.all}) })
 --

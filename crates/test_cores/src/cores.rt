@@ -224,11 +224,12 @@ fn holds(alloc: Global, script: &str, row: &str) -> Result<bool, Fail> {
 }
 
 /// Each row of the table holds: a program, a line `--`, and its rows, of which each has steps, the mark ` --> `, and what is told
-/// of them. Between programs stands an empty line.
+/// of them, and a line that begins with four spaces goes on with the one before it. Between programs stands an empty line.
 pub fn agree(rt: &impl Abort, alloc: Global, table: &str) -> Result<(), Fail> {
     for part in table.trim().split("\n\n") {
         let (script, rows) = part.split_once("\n--\n").ok_or("no rows")?;
-        for row in rows.split("\n") {
+        let rows = rows.replace(alloc, "\n    ", " ")?;
+        for row in rows.as_str().split("\n") {
             assert!(rt; holds(alloc, script, row)?, "{script}\n{row}");
         }
     }

@@ -12,7 +12,9 @@ bp.registerBThread("A", function() {
   bp.registerBThread("C", function() { bp.log.info("c"); });
 });
 --
-0:1000 seal 0:1000 seal pick 0:1000 seal 1:1000 0:1000 seal 0:1000 seal pick --> event ["a"]; done "A"; log "B" "b"; done "B"; log "C" "c"; done "C"; log "D" "d"; done "D"; verdict quiet 1; --> sel end
+0:1000 seal 0:1000 seal pick 0:1000 seal 1:1000 0:1000 seal 0:1000 seal pick
+    --> event ["a"]; done "A"; log "B" "b"; done "B"; log "C" "c"; done "C"; log "D" "d"; done "D";
+    verdict quiet 1; --> sel end
 pick --> illegal 0; -->
  --> -->
 seal --> illegal 0; -->
@@ -28,8 +30,12 @@ seal --> illegal 0; -->
 0:1000 seal 0:1000 seal pick 0:1000 seal 0:1000 seal --> illegal 8; event ["a"]; done "A"; --> sel
 0:1000 seal 0:1000 seal pick 0:1000 seal 0:1000 1:1 seal --> illegal 9; event ["a"]; done "A"; --> sel
 0:1000 seal 0:1000 seal pick 0:1000 seal 0:1000 2:1 --> illegal 8; event ["a"]; done "A"; --> sel
-0:18446744073709551615 seal 0:1000 seal pick 0:1000 seal 0:1 1:1 0:1000 1:1000 seal 0:1000 seal pick --> event ["a"]; done "A"; log "B" "b"; done "B"; log "C" "c"; done "C"; log "D" "d"; done "D"; verdict quiet 1; --> sel end
-0:1*3 0:1000 seal 0:1 0:1000 seal pick 0:1*2 0:1000 seal 1:1 0:1 1:1000 0:1000 seal 0:1 0:1000 seal pick --> event ["a"]; done "A"; log "B" "b"; done "B"; log "C" "c"; done "C"; log "D" "d"; done "D"; verdict quiet 1; --> sel end
+0:18446744073709551615 seal 0:1000 seal pick 0:1000 seal 0:1 1:1 0:1000 1:1000 seal 0:1000 seal pick
+    --> event ["a"]; done "A"; log "B" "b"; done "B"; log "C" "c"; done "C"; log "D" "d"; done "D";
+    verdict quiet 1; --> sel end
+0:1*3 0:1000 seal 0:1 0:1000 seal pick 0:1*2 0:1000 seal 1:1 0:1 1:1000 0:1000 seal 0:1 0:1000 seal pick
+    --> event ["a"]; done "A"; log "B" "b"; done "B"; log "C" "c"; done "C"; log "D" "d"; done "D";
+    verdict quiet 1; --> sel end
 
 bp.registerBThread("A", () => { for (let i = 0; i < 50; i++) {} bp.log.info("a") })
 bp.registerBThread("B", () => { for (let i = 0; i < 50; i++) {} bp.log.info("b") })
@@ -57,7 +63,8 @@ bp.registerBThread("A", () => { bp.sync({waitFor: bp.all}) })
 0:99 seal 0:99 seal 0<bad pick --> verdict bad 0 2; --> bad end
 0:99 seal 0:99 seal 0<x pick 0<x --> illegal 6; external ["x"]; --> in sel
 0:99 seal 0:99 seal 0<x pick pick --> illegal 6; external ["x"]; --> in sel
-0:99 seal 0:99 seal pick pick 0<x pick 0:99 seal 1<end 0<end pick --> external ["x"]; done "A"; verdict quiet 1; --> in sel eof eof end
+0:99 seal 0:99 seal pick pick 0<x pick 0:99 seal 1<end 0<end pick
+    --> external ["x"]; done "A"; verdict quiet 1; --> in sel eof eof end
 0:99 seal 0:99 seal 0<x*16385 --> illegal 16388; --> 16384
 0:99 seal 0:99 seal 0<x*16384 1<end --> --> 16385
 
@@ -67,7 +74,8 @@ bp.registerBThread("A", () => { bp.sync({request: bp.Event("r")}) })
 
 bp.registerBThread("A", () => { bp.sync({interrupt: bp.Event("go")}) })
 --
-0:99 seal 0:99 seal 0<go pick seal 0<end 1<end pick --> external ["go"]; interrupted "A"; verdict quiet 1; --> in sel eof eof end
+0:99 seal 0:99 seal 0<go pick seal 0<end 1<end pick
+    --> external ["go"]; interrupted "A"; verdict quiet 1; --> in sel eof eof end
 0:99 seal 0:99 seal 0<go pick pick --> illegal 6; external ["go"]; --> in sel
 0:99 seal 0:99 seal 0<go pick 0:1 --> illegal 6; external ["go"]; --> in sel
 
