@@ -34,11 +34,10 @@ rows() {
     ' "$1"
 }
 
-# mistakes: the scripts of the table of mistakes, each on a line
+# mistakes: the scripts of the table of mistakes
 mistakes() {
-    awk -v to="$got/scripts/mistakes" '
-        /^"#;$/ { inside = 0 }
-        inside {
+    mistakes_table | awk -v to="$got/scripts/mistakes" '
+        {
             sub(/ ==> .*/, "")
             gsub(/\\n/, "\n")
             number++
@@ -46,8 +45,7 @@ mistakes() {
             print > file
             close(file)
         }
-        /^pub const MISTAKES/ { inside = 1 }
-    ' "$top/crates/test_bpx/src/mistakes.rt"
+    '
 }
 
 # crowd KIND NUMBER: a line of text that registers this many b-threads of this kind

@@ -8,7 +8,7 @@
 top=$(cd "$(dirname "$0")/.." && pwd) || exit 1
 . "$top/tests/common.sh"
 
-sed -n '/^pub const MISTAKES/,/^"#;$/p' "$top/crates/test_bpx/src/mistakes.rt" | sed '1d;$d' | sed -e ':row' -e '$!N' -e 's/\n    / /' -e 't row' -e 'P;D' > "$got/table"
+mistakes_table > "$got/table"
 
 # says ROW: whether `bp run` ends with the verdict of this row, or refuses its script so
 says() {
