@@ -16,6 +16,6 @@ for name in placed asked; do
     cp "$top/bench/select_$name.txt" "$bench/proofs/$name/Invariants.antt"
 done
 cp "$top/crates.txt" "$copy/crates.txt"
-printf '%s\n' 'select_bench: bp_log bp_script bp_select bp_thread js_data js_frames js_meaning js_value anyhow' >> "$copy/crates.txt"
+printf '%s\n' 'select_bench: bp_draw bp_log bp_script bp_select bp_thread js_data js_frames js_meaning js_value anyhow' >> "$copy/crates.txt"
 cd "$bench"
 rt run

@@ -14,10 +14,11 @@ ghost use Rattle.bp_arbiter.specs.Seal.{IsTurned, IsCutOff};
 
 use crate::numbers::Numbers;
 use crate::picked::Picked;
+use bp_draw::Draw;
 use bp_floor::{Absorb, Floor, Phase, Went};
 use bp_log::limits::MOST_WAITING;
 use bp_log::{Item, Memory, Record, Records, Verdict};
-use bp_select::{Choice, Draw, SelectFault};
+use bp_select::{Choice, SelectFault};
 use bp_thread::Job;
 use js_data::Event;
 use std::alloc::{AllocError, Global};

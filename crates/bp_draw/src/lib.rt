@@ -1,9 +1,12 @@
 //! The words of the random choice: those of ChaCha8 with the seed as its key.
 #![tactic(auto)]
 
+mod draw;
+
 ghost use Rattle.std.specs.Prelude.{◌≡◌};
 ghost use Rattle.bp_draw.specs.Words.{draw_word};
 
+pub use draw::Draw;
 use rand_chacha::ChaCha8Rng;
 use rand_core::SeedableRng;
 use rand_core::utils::NextWord;

@@ -14,8 +14,9 @@ ghost use Rattle.bp_select.specs.Answers.{AnswersAs, AnswersReach, IsWithin, cho
 ghost use Rattle.bp_floor.specs.inner.Desks.{Fits, block_at, block_stated, shifted, enabled_behind, learned};
 
 use crate::{EventList, Front};
+use bp_draw::Draw;
 use bp_log::{Memory, Strategy};
-use bp_select::{Bench, Choice, Draw, Enabled, Reach, SelectFault};
+use bp_select::{Bench, Choice, Enabled, Reach, SelectFault};
 use bp_thread::Statement;
 use js_data::Event;
 use js_frames::Ground;

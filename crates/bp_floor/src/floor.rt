@@ -24,9 +24,10 @@ ghost use Rattle.bp_floor.specs.Floors.{StandsFor, StandsWith, AreBack, IsSealed
 ghost use Rattle.bp_floor.specs.inner.Absorbing.{IsRefused};
 
 use crate::{Absorb, Board, Desk, Entry, Phase, Seats, Wave, Went, stop_of_job};
+use bp_draw::Draw;
 use bp_log::limits::MOST_WAITING;
 use bp_log::{Item, Line, Lines, Memory, Options, Verdict};
-use bp_select::{Choice, Draw, Enabled, SelectFault};
+use bp_select::{Choice, Enabled, SelectFault};
 use bp_sets::SetFault;
 use bp_thread::{Job, Statement};
 use js_data::{Event, Text};

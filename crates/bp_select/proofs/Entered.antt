@@ -9,7 +9,7 @@ use Rattle.js_data.proofs.Shared.{drop_is}
 use Rattle.js_value.specs.Value.{PlainSet}
 use Rattle.bp_run.specs.Selecting.{Live}
 use Rattle.bp_select.specs.inner.Candidates.{candidate_of, tops_of}
-use Rattle.bp_select.specs.declared.key.Key.{Key}
+use Rattle.bp_roll.specs.declared.key.Key.{Key}
 use Rattle.bp_select.specs.inner.Tops.{Top, raised, with_request, with_requests, with_live}
 use Rattle.bp_select.proofs.TopLemmas.{request_at}
 

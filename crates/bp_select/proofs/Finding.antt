@@ -17,7 +17,7 @@ use Rattle.bp_select.specs.declared.answers.SelectFault.{SelectFault}
 use Rattle.bp_select.specs.declared.answers.Reach.{Reach}
 use Rattle.bp_select.specs.inner.Touches.{AddsTouch}
 use Rattle.bp_select.specs.Answers.{FaultAs}
-use Rattle.bp_select.specs.inner.Feeding.{event_key}
+use Rattle.bp_roll.specs.Feeding.{event_key}
 use Rattle.bp_select.specs.Tallies.{Each}
 use Rattle.bp_select.specs.inner.Heeding.{IsNoted, Stays, any_key}
 use Rattle.bp_select.specs.inner.Lives.{live_of}

@@ -12,7 +12,7 @@ use Rattle.js_value.specs.Value.{PlainSet}
 use Rattle.bp_run.specs.Selecting.{Live}
 use Rattle.bp_run.specs.Choosing.{is_first_of}
 use Rattle.bp_select.specs.inner.Candidates.{is_first}
-use Rattle.bp_select.specs.inner.Keys.{same_sym}
+use Rattle.bp_roll.specs.Keys.{same_sym}
 
 -- ---- keys of events
 

@@ -6,7 +6,7 @@ use Rattle.js_data.specs.Event.{PlainEvent, same_event}
 use Rattle.js_data.proofs.SameEvent.{same_event-sound}
 use Rattle.bp_run.specs.Selecting.{distinct}
 use Rattle.bp_run.proofs.Chosen.{among, other}
-use Rattle.bp_select.specs.inner.Keys.{same_sym}
+use Rattle.bp_roll.specs.Keys.{same_sym}
 
 -- e at the end, unless it is there
 abbrev pub with_new : List PlainEvent → PlainEvent → List PlainEvent

@@ -21,7 +21,7 @@ use Rattle.bp_select.specs.declared.bench.Stated.{Stated}
 use Rattle.bp_select.specs.declared.heeds.Heeds as heeds
 use Rattle.bp_select.specs.inner.BlockSets.{AreOfUnchanged}
 use Rattle.bp_select.specs.Benches.{live_at, placed}
-use Rattle.bp_select.specs.inner.Feeding.{event_key}
+use Rattle.bp_roll.specs.Feeding.{event_key}
 use Rattle.bp_select.specs.inner.Heeding.{AreKept, AreNoted, HaveKeysOf, HeedsAt, IsNoted, Stays, TouchedAt, WhereWhole, any_key, asks_key, blocks_key}
 use Rattle.bp_select.specs.Tallies.{Each}
 use Rattle.bp_select.specs.inner.Lives.{live_of}

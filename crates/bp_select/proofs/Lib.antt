@@ -15,5 +15,4 @@ pub mod HeedLemmas
 pub mod Finding
 pub mod PartLemmas
 pub mod Readiness
-pub mod CountLemmas
 pub mod TallyLemmas

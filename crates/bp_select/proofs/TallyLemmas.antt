@@ -27,9 +27,10 @@ use Rattle.bp_select.specs.Benches.{live_at, placed}
 use Rattle.bp_select.specs.Blocks.{AreOf}
 use Rattle.bp_select.specs.inner.Candidates.{events_in}
 use Rattle.bp_select.specs.declared.candidate.Candidate.{Candidate}
-use Rattle.bp_select.specs.Tallies.{count_at, Each, AreApart, AreFreeOf, AreTallied, HasFree, PlainTally, Tallied, Unless, is_there}
+use Rattle.bp_roll.specs.Counting.{count_at}
+use Rattle.bp_select.specs.Tallies.{Each, AreApart, AreFreeOf, AreTallied, HasFree, PlainTally, Tallied, Unless, is_there}
 use Rattle.bp_select.specs.inner.Heeding.{Stays}
-use Rattle.bp_select.specs.inner.Keys.{same_sym}
+use Rattle.bp_roll.specs.Keys.{same_sym}
 use Rattle.bp_select.specs.inner.Lives.{live_of}
 use Rattle.bp_select.specs.Places.{AreAbove, AreInOrder}
 use Rattle.bp_select.specs.inner.Numbers.{is_number}

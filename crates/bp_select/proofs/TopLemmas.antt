@@ -10,7 +10,7 @@ use Rattle.js_value.specs.Value.{PlainSet}
 use Rattle.bp_run.specs.Selecting.{Live, requests, candidates}
 use Rattle.bp_run.specs.Choosing.{priority_of}
 use Rattle.bp_select.specs.inner.Tops.{Top, events_of, raised, with_request, with_requests, with_live, HaveTops}
-use Rattle.bp_select.specs.inner.Keys.{same_sym}
+use Rattle.bp_roll.specs.Keys.{same_sym}
 use Rattle.bp_select.proofs.Gathered.{with_new, with_all, gathered}
 use Rattle.bp_select.proofs.Remains.{upper, upper_twice, upper_none, max_self, priority_at}
 

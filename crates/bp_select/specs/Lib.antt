@@ -1,4 +1,3 @@
-pub mod Draws
 pub mod Answers
 pub mod Places
 pub mod EmptySets

@@ -1,5 +1,5 @@
 -- How many free events each b-thread requests: events that nobody blocks.
-use Rattle.std.specs.Prelude.{◌≡◌, ◌⊎◌, ℕ, nat_eq, Bool, true, false, List, [], ◌∷◌, Ok, get_or, length}
+use Rattle.std.specs.Prelude.{◌≡◌, ◌⊎◌, ℕ, nat_eq, Bool, true, false, List, [], ◌∷◌, Ok, length}
 use Rattle.std.specs.List.{list_any}
 use Rattle.js_data.specs.Event.{PlainEvent}
 use Rattle.js_value.specs.Value.{PlainSet}
@@ -7,6 +7,7 @@ use Rattle.js_meaning.specs.State.{Ground}
 use Rattle.bp_meaning.specs.Membership.{member}
 use Rattle.bp_run.specs.Selecting.{Live, candidates, requests, unblocked}
 use Rattle.bp_roll.specs.Rolls.{is_in}
+use Rattle.bp_roll.specs.Counting.{count_at}
 use Rattle.bp_known.specs.Known.{Sets}
 use Rattle.bp_select.specs.Blocks.{AreOf}
 use Rattle.bp_select.specs.Places.{AreInOrder}
@@ -25,10 +26,6 @@ no_tally = record { counts = []; changed = []; whole = false }
 abbrev pub Each : (Live PlainSet → Type 0) → List (Live PlainSet) → Type 0
 Each P [] = Unit {0}
 Each P (t ∷ ts) = P t × Each P ts
-
--- the count of this number, and 0 where there is none
-abbrev pub count_at : List ℕ → ℕ → ℕ
-count_at counts n = get_or counts n 0
 
 -- whether some b-thread has this number
 abbrev pub is_there : ℕ → List (Live PlainSet) → Bool

@@ -2,8 +2,6 @@
 pub mod Lives
 pub mod Lists
 pub mod Numbers
-pub mod Feeding
-pub mod Keys
 pub mod Tops
 pub mod Candidates
 pub mod Parts
@@ -12,5 +10,4 @@ pub mod Heeding
 pub mod Settled
 pub mod Touches
 pub mod Eligible
-pub mod Counting
 pub mod Counted

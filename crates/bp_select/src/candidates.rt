@@ -6,8 +6,8 @@ ghost use Rattle.bp_select.specs.inner.Candidates.{tops_in, tops_of, candidate_o
 
 use crate::bench::Stated;
 use crate::candidate::Candidate;
-use crate::key::Key;
 use bp_log::Memory;
+use bp_roll::Key;
 use indexmap::IndexMap;
 use js_data::Event;
 use std::alloc::Global;

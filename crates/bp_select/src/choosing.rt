@@ -11,8 +11,8 @@ ghost use Rattle.bp_select.specs.inner.Candidates.{events_in, tops_of, is_among,
 
 use crate::bench::Stated;
 use crate::candidate::{Candidate, keep_if};
-use crate::key::Key;
 use bp_log::{Memory, Strategy};
+use bp_roll::Key;
 use indexmap::IndexSet;
 use js_data::Event;
 use std::alloc::Global;

@@ -17,14 +17,13 @@ ghost use Rattle.bp_select.specs.Places.{AreInOrder};
 ghost use Rattle.bp_select.specs.inner.Numbers.{place_in};
 
 use crate::bench::Stated;
-use crate::key::hash_of;
 use crate::keys::{ANY, ASKS, BLOCKS, keys_of};
 use crate::picking::{all_asking, all_blocking, part_at};
 use crate::placing::{is_at, place_of};
 use crate::reaching::{reach, reach_at};
 use crate::{Reach, SelectFault};
 use bp_log::Memory;
-use bp_roll::{Changes, Roll};
+use bp_roll::{Changes, Roll, hash_of};
 use js_data::Event;
 use js_frames::Ground;
 use std::alloc::Global;

@@ -7,14 +7,14 @@ ghost use Rattle.js_value.specs.Value.{PlainSet, any as any_of};
 ghost use Rattle.bp_run.specs.Selecting.{Live};
 ghost use Rattle.bp_thread.specs.Views.{stated_set};
 ghost use Rattle.bp_roll.specs.Rolls.{is_in};
-ghost use Rattle.bp_select.specs.inner.Feeding.{event_key};
+ghost use Rattle.bp_roll.specs.Feeding.{event_key};
 ghost use Rattle.bp_select.specs.inner.Heeding.{HaveKeysOf, HeedsAt, TouchedAt};
 ghost use Rattle.bp_select.specs.inner.Lives.{live_of};
 
 use crate::bench::Stated;
-use crate::key::hash_of;
 use crate::picking::{asks, blocks};
 use bp_log::Memory;
+use bp_roll::hash_of;
 use js_data::Event;
 use js_value::{EventSet, SetTree};
 use std::alloc::Global;

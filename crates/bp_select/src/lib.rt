@@ -14,11 +14,7 @@ mod block_sets;
 mod candidate;
 mod candidates;
 mod choosing;
-mod counts;
-mod draw;
-mod feeding;
 mod heeds;
-mod key;
 mod keys;
 mod picking;
 mod placing;
@@ -29,4 +25,3 @@ mod tally;
 
 pub use answers::{Choice, Enabled, Reach, SelectFault};
 pub use bench::Bench;
-pub use draw::Draw;

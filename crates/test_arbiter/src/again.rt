@@ -7,9 +7,10 @@ ghost use Rattle.bp_select.specs.Benches.{Fits};
 
 use crate::plain::Plain;
 use crate::source::{PROGRAM, Source};
+use bp_draw::Draw;
 use bp_log::Strategy;
 use bp_script::accept;
-use bp_select::{Bench, Choice, Draw, Enabled, Reach, SelectFault};
+use bp_select::{Bench, Choice, Enabled, Reach, SelectFault};
 use bp_thread::Statement;
 use js_data::Event;
 use js_frames::Ground;

@@ -10,9 +10,10 @@ ghost use Rattle.js_meaning.specs.State.{Ground as Base};
 ghost use Rattle.bp_select.specs.Benches.{Fits};
 
 use crate::lines::event;
+use bp_draw::Draw;
 use bp_log::Strategy;
 use bp_script::accept;
-use bp_select::{Bench, Choice, Draw, Enabled, Reach, SelectFault};
+use bp_select::{Bench, Choice, Enabled, Reach, SelectFault};
 use bp_sets::SetFault;
 use bp_thread::{Events, Requests, Statement};
 use js_data::{Event, Text, Whole};

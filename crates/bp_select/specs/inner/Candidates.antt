@@ -9,7 +9,7 @@ use Rattle.js_data.specs.Event.{PlainEvent, same_event}
 use Rattle.js_value.specs.Value.{PlainSet}
 use Rattle.bp_run.specs.Selecting.{Live}
 use Rattle.bp_select.specs.declared.candidate.Candidate.{Candidate}
-use Rattle.bp_select.specs.declared.key.Key.{Key}
+use Rattle.bp_roll.specs.declared.key.Key.{Key}
 use Rattle.bp_select.specs.inner.Tops.{Top}
 
 abbrev pub event_of : Candidate → PlainEvent

@@ -11,7 +11,7 @@ use Rattle.bp_select.specs.declared.heeds.Heeds as heeds
 use Rattle.bp_known.specs.Known.{Sets}
 use Rattle.bp_select.specs.Tallies.{Each}
 use Rattle.bp_select.specs.inner.BlockSets.{AreOfUnchanged}
-use Rattle.bp_select.specs.inner.Feeding.{event_key}
+use Rattle.bp_roll.specs.Feeding.{event_key}
 use Rattle.bp_select.specs.inner.Parts.{asks_nothing, blocks_nothing}
 
 -- the key of those that any event may touch

@@ -1,7 +1,7 @@
 use Rattle.std.proofs.Common.{◌∙◌, List, ℤ, ap, map}
 use Rattle.std.proofs.lemmas.Result.{IfOk-weaker}
 use Rattle.bp_select.specs.declared.candidate.Candidate.{Candidate}
-use Rattle.bp_select.specs.declared.key.Key.{Key}
+use Rattle.bp_roll.specs.declared.key.Key.{Key}
 use Rattle.bp_select.specs.inner.Candidates.{tops_of}
 use Rattle.bp_select.specs.inner.Tops.{with_requests}
 use Rattle.bp_select.proofs.Entered.{listed_tops}

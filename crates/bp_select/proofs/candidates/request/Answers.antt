@@ -1,5 +1,5 @@
 use Rattle.std.proofs.Common.{◌∙◌, ℤ, List, Option, map, ap, w64, SFits, to_z-of_z, rules}
-use Rattle.bp_select.specs.declared.key.Key.{Key}
+use Rattle.bp_roll.specs.declared.key.Key.{Key}
 use Rattle.bp_select.specs.inner.Tops.{raised}
 use Rattle.bp_select.proofs.Entered.{entered}
 use Rattle.bp_select.proofs.candidates.request.Goals as goal

@@ -2,7 +2,7 @@ use Rattle.std.proofs.Common.{◌+◌, ◌∙◌, ◌||◌, map, ap}
 use Rattle.std.specs.List.{list_any}
 use Rattle.bp_select.specs.inner.Lives.{lent}
 use Rattle.bp_select.specs.inner.Candidates.{is_among, is_first}
-use Rattle.bp_select.specs.declared.key.Key.{Key}
+use Rattle.bp_roll.specs.declared.key.Key.{Key}
 use Rattle.bp_select.proofs.Firsts.{among_more, any_later, first_found, first_missing, firsts_more, firsts_same, firsts_last}
 use Rattle.bp_select.proofs.choosing.firsts.Goals as goal
 use Rattle.bp_select.proofs.choosing.firsts.Goals.{in-Some+in_ok-insert, in_default}

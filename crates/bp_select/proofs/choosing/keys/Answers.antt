@@ -1,7 +1,7 @@
 use Rattle.std.specs.List.{list_any}
 use Rattle.js_data.specs.Event.{same_event}
 use Rattle.bp_select.specs.inner.Candidates.{event_of, events_in, is_among}
-use Rattle.bp_select.specs.declared.key.Key.{Key}
+use Rattle.bp_roll.specs.declared.key.Key.{Key}
 use Rattle.bp_select.proofs.Firsts.{among_more, keys_step, keys_last}
 use Rattle.bp_select.proofs.choosing.keys.Goals as goal
 

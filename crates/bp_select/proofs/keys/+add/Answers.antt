@@ -3,7 +3,7 @@ use Rattle.js_value.specs.Value.{PlainSet}
 use Rattle.js_value.specs.Views.{plain_set}
 use Rattle.bp_roll.specs.Rolls.{is_in}
 use Rattle.bp_sets.proofs.Deciding.{set_below}
-use Rattle.bp_select.specs.inner.Feeding.{event_key}
+use Rattle.bp_roll.specs.Feeding.{event_key}
 use Rattle.bp_select.specs.inner.Heeding.{HaveKeysOf}
 use Rattle.bp_select.proofs.HeedLemmas.{in_push, keys_any, keys_only}
 use Rattle.bp_select.proofs.keys.+add.Goals as goal

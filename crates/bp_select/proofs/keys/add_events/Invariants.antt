@@ -2,7 +2,7 @@ use Rattle.std.proofs.Common.{◌≡◌, ℕ, true, take}
 use Rattle.std.specs.List.{list_any}
 use Rattle.js_data.specs.Event.{PlainEvent, same_event}
 use Rattle.bp_roll.specs.Rolls.{is_in}
-use Rattle.bp_select.specs.inner.Feeding.{event_key}
+use Rattle.bp_roll.specs.Feeding.{event_key}
 use Rattle.bp_select.proofs.keys.add_events.Given as goal
 
 abbrev pub invariant-loop-event : goal.invariant-loop-event

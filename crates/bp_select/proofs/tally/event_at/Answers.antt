@@ -2,7 +2,7 @@ use Rattle.std.proofs.Common.{◌≡◌, ◌+◌, ◌∙◌, ◌<◌, ℕ, Some,
 use Rattle.std.specs.Prelude.{IfOk, IfSome, sum}
 use Rattle.js_frames.specs.Places.{plain_ground}
 use Rattle.bp_meaning.specs.Membership.{member}
-use Rattle.bp_select.specs.Tallies.{count_at}
+use Rattle.bp_roll.specs.Counting.{count_at}
 use Rattle.bp_select.specs.inner.Lives.{live_of}
 use Rattle.bp_select.specs.inner.Counted.{all_free}
 use Rattle.bp_select.proofs.tally.event_at.Goals as goal

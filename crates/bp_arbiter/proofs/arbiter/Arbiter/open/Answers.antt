@@ -1,5 +1,5 @@
 use Rattle.std.proofs.Common.{◌∙◌, ap}
-use Rattle.bp_select.specs.Draws.{PlainDraw}
+use Rattle.bp_draw.specs.Draws.{PlainDraw}
 use Rattle.bp_arbiter.proofs.Standing.{opened_is, opened_sound, opened_stands}
 use Rattle.bp_arbiter.proofs.arbiter.Arbiter.open.Goals as goal
 

@@ -5,7 +5,7 @@ use Rattle.bp_run.specs.Story.Next.{Ends}
 use Rattle.bp_select.specs.declared.answers.Choice.{Choice}
 use Rattle.bp_select.specs.declared.answers.SelectFault.{SelectFault}
 use Rattle.bp_select.specs.Answers.{FaultAs, IsWithin, chosen_of}
-use Rattle.bp_select.specs.Draws.{PlainDraw}
+use Rattle.bp_draw.specs.Draws.{PlainDraw}
 use Rattle.bp_floor.specs.Floors.{PlainFloor}
 use Rattle.bp_floor.proofs.TransitionLemmas.{verdict_for}
 use Rattle.bp_floor.proofs.Lists.{found}

@@ -1,5 +1,5 @@
 use Rattle.std.proofs.Common.{◌∙◌, ap, sym, Some, option_map}
-use Rattle.bp_select.specs.Draws.{PlainDraw}
+use Rattle.bp_draw.specs.Draws.{PlainDraw}
 use Rattle.bp_arbiter.proofs.SealLemmas.{turned_ended}
 use Rattle.bp_arbiter.proofs.run.Run.seal.Goals as goal
 

@@ -2,7 +2,7 @@
 ghost use Rattle.std.specs.Prelude.{◌≡◌, ◌<◌, ◌+◌, ◌^◌};
 ghost use Rattle.bp_draw.specs.Words.{draw_word};
 
-use bp_draw::word_of;
+use crate::word_of;
 use std::marker::Model;
 
 /// The words that are drawn for a seed. Contracts see the seed, and how many words were drawn.
@@ -13,7 +13,7 @@ pub struct Draw {
 }
 
 impl Model for Draw {
-    ghost use Rattle.bp_select.specs.Draws.{PlainDraw};
+    ghost use Rattle.bp_draw.specs.Draws.{PlainDraw};
 
     ghost Value = { PlainDraw };
 
@@ -36,14 +36,14 @@ impl Draw {
     }
 
     /// The next word.
-    pub(crate) fn word(&self) -> u32
+    pub fn word(&self) -> u32
         ensures { result ≡ draw_word self.now.seed self.now.drawn }
     {
         word_of(self.seed, self.drawn)
     }
 
     /// One word more is drawn.
-    pub(crate) fn advance(&mut self)
+    pub fn advance(&mut self)
         requires { self.old.drawn + 1 < 2 ^ 64 }
         ensures { self.new ≡ record { seed = self.old.seed; drawn = self.old.drawn + 1 } }
     {

@@ -4,7 +4,7 @@ use Rattle.std.specs.Cmp.{IsPartialEquivalence, IsEquivalence, both_ways}
 use Rattle.std.proofs.Common.{ap, sym, ◌∙◌}
 use Rattle.js_data.specs.Event.{PlainEvent, same_event}
 use Rattle.js_data.proofs.SameEvent.{same_event-sound, same_event-self}
-use Rattle.bp_select.specs.inner.Feeding.{event_writes}
+use Rattle.bp_roll.specs.Feeding.{event_writes}
 
 -- what is equal to b is b
 pub same_along : (a b c : PlainEvent) → same_event a b ≡ true → same_event a c ≡ same_event b c

@@ -1,8 +1,8 @@
 //! Counts by number, and of each block of them together, so that one is found without a look at
 //! each.
 ghost use Rattle.std.specs.Prelude.{◌≡◌, ◌<◌, ◌+◌, ◌++◌, ◌∷◌, ℕ, List, [], false, length, nat_eq, sum, take, true, IfOk, IfSome, OnOk};
-ghost use Rattle.bp_select.specs.inner.Counting.{AreSums};
-ghost use Rattle.bp_select.specs.Tallies.{count_at};
+ghost use Rattle.bp_roll.specs.Counting.{AreSums};
+ghost use Rattle.bp_roll.specs.Counting.{count_at};
 
 use bp_log::Memory;
 use std::alloc::Global;
@@ -13,7 +13,7 @@ const BLOCK: usize = 64;
 
 /// Counts by number. Contracts see the list of them.
 #[derive(Drop)]
-pub(crate) struct Counts {
+pub struct Counts {
     /// 0 where nobody is.
     items: Vec<usize>,
     /// Those of each block together.
@@ -22,7 +22,7 @@ pub(crate) struct Counts {
 
 impl Model for Counts {
     ghost use Rattle.std.specs.Prelude.{ℕ, List};
-    ghost use Rattle.bp_select.specs.inner.Counting.{AreSums};
+    ghost use Rattle.bp_roll.specs.Counting.{AreSums};
 
     ghost Value = { List ℕ };
 
@@ -45,7 +45,7 @@ fn make_block(sums: &mut Vec<usize>, items: &[usize]) -> Result<(), Memory>
 
 /// A number, and a place before its count.
 #[derive(Clone, Copy)]
-pub(crate) struct Spot {
+pub struct Spot {
     /// The number.
     pub number: usize,
     /// The place.

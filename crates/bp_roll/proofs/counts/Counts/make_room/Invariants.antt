@@ -1,6 +1,6 @@
 use Rattle.std.proofs.Common.{◌≡◌, ℕ, length}
-use Rattle.bp_select.specs.Tallies.{count_at}
-use Rattle.bp_select.proofs.counts.Counts.make_room.Given as goal
+use Rattle.bp_roll.specs.Counting.{count_at}
+use Rattle.bp_roll.proofs.counts.Counts.make_room.Given as goal
 
 abbrev pub invariant-loop-place : goal.invariant-loop-place
 invariant-loop-place l = record {

@@ -1,8 +1,8 @@
 //! Events as keys of maps.
 ghost use Rattle.std.specs.Prelude.{◌≡◌};
 ghost use Rattle.js_data.specs.Event.{same_event};
-ghost use Rattle.bp_select.specs.inner.Feeding.{event_key, event_writes};
-ghost use Rattle.bp_select.specs.inner.Keys.{same_partial, same_equivalence, same_writes};
+ghost use Rattle.bp_roll.specs.Feeding.{event_key, event_writes};
+ghost use Rattle.bp_roll.specs.Keys.{same_partial, same_equivalence, same_writes};
 
 use crate::feeding::feed;
 use js_data::Event;
@@ -10,7 +10,7 @@ use std::hash::{FoldHasher, Hash, Hasher};
 
 /// An event as a key of a map. Two keys are equal exactly where their events are.
 #[derive(Clone, Copy)]
-pub(crate) struct Key<'a> {
+pub struct Key<'a> {
     /// The event.
     pub event: &'a Event,
 }
@@ -43,7 +43,7 @@ impl<'a> Hash for Key<'a> {
 }
 
 /// A hash of the event.
-pub(crate) fn hash_of(event: &Event) -> u64
+pub fn hash_of(event: &Event) -> u64
     ensures { result ≡ event_key event.now }
 {
     let mut state = FoldHasher::default();

@@ -4,8 +4,8 @@ use Rattle.std.specs.Prelude.{sum}
 use Rattle.std.proofs.lemmas.Bool.{eq-eqb, eqb-true, ltb-true, ltb-false}
 use Rattle.std.proofs.lemmas.List.{length-set, length_push, get_or-set_same, get_or-set_other, take-set-le, take_all, take_more}
 use Rattle.std.proofs.lemmas.List.Sums.{sum_by-cons, sum_by_push}
-use Rattle.bp_select.specs.inner.Counting.{AreSums}
-use Rattle.bp_select.specs.Tallies.{count_at}
+use Rattle.bp_roll.specs.Counting.{AreSums}
+use Rattle.bp_roll.specs.Counting.{count_at}
 
 -- ---- counts
 

@@ -1,6 +1,6 @@
 use Rattle.std.proofs.Common.{◌∙◌, ◌/◌, ◌<◌, ℕ, List, arith, length, subst, sym}
-use Rattle.bp_select.proofs.CountLemmas.{block_has, block_within, count_is, sums_set}
-use Rattle.bp_select.proofs.counts.Counts.put.Goals as goal
+use Rattle.bp_roll.proofs.CountLemmas.{block_has, block_within, count_is, sums_set}
+use Rattle.bp_roll.proofs.counts.Counts.put.Goals as goal
 
 pub overflow_sub-others : goal.overflow_sub-others
 overflow_sub-others c =
