@@ -1,8 +1,6 @@
 //! A log of either version, written in the second.
-ghost use Rattle.std.specs.Prelude.{◌≡◌, ◌≤◌, None, IfSome, IfOk, IsErrOf};
+ghost use Rattle.std.specs.Prelude.{◌≡◌, ◌≤◌, None, IfSome, IsErrOf};
 ghost use Rattle.bp_base.specs.Counts.{Rose};
-ghost use Rattle.bp_log.specs.Logs.{header_text};
-ghost use Rattle.bp_log.specs.declared.version.Version.TheVariants as version;
 ghost use Rattle.bp_reader.specs.Fed.{Between};
 ghost use Rattle.bp_reader.specs.declared.fault.LogFault.TheVariants as log_fault;
 ghost use Rattle.bp_reading.specs.Reading.{first_stage};
@@ -11,10 +9,10 @@ ghost use Rattle.bp_migrate.specs.Migrations.{CopiesBehind, TakenBehind, IsMigra
 
 use crate::MigrateFault;
 use bp_base::{Sink, Source};
-use bp_log::{Header, Memory, write_header};
+use bp_log::{Header, Memory};
 use bp_reader::Reader;
 use bp_told::Page;
-use std::alloc::{AllocError, Global};
+use std::alloc::Global;
 
 /// What came of a migration.
 #[derive(Drop)]
@@ -23,17 +21,6 @@ pub struct Migrated<S: Source> {
     pub ended: Result<(), MigrateFault>,
     /// The source, as far as its blocks were taken.
     pub log: S,
-}
-
-/// The head of a log of the second version on a page of its own.
-fn head_of(alloc: Global, header: &Header) -> Result<Page, Memory>
-    ensures { IfOk result (λ page. page ≡ header_text version.Second header.now) }
-{
-    let mut page = Page::new(alloc);
-    match write_header(alloc, header, &mut page) {
-        Ok(()) => Ok(page),
-        Err(_) => Err(AllocError),
-    }
 }
 
 /// Puts the records that are still to be read on the page, and writes what waits whenever that is
@@ -94,7 +81,7 @@ fn migrate_records<S: Source, K: Sink>(
     ensures write_counts { K.faults out.old ≤ K.faults out.new }
     ensures named { K.made_as out.new ≡ K.made_as out.old }
 {
-    let mut page = head_of(alloc, header)?;
+    let mut page = Page::headed(alloc, header)?;
     let ended = copy(alloc, reader, &mut page, out);
     page.write(out)?;
     ended

@@ -1,13 +1,14 @@
 //! Text that waits to be written, so that the outside gets few and large pieces.
-ghost use Rattle.std.specs.Prelude.{◌≡◌, ◌≤◌, ◌++◌, [], Some, OnOk, OnErr, IsErrOf};
+ghost use Rattle.std.specs.Prelude.{◌≡◌, ◌≤◌, ◌++◌, [], Some, IfOk, OnOk, OnErr, IsErrOf};
 ghost use Rattle.bp_base.specs.Counts.{Rose};
 ghost use Rattle.bp_base.specs.Pieces.{Appends, AppendsFront};
-ghost use Rattle.bp_log.specs.Logs.{whole_record, records_text};
+ghost use Rattle.bp_log.specs.Logs.{header_text, whole_record, records_text};
 ghost use Rattle.bp_log.specs.Texts.{whole_line, lines_text};
+ghost use Rattle.bp_log.specs.declared.version.Version.TheVariants.{Second};
 ghost use Rattle.bp_told.specs.Pages.{Shows, ShowsFront};
 
 use bp_base::{Failed, Sink, write_all};
-use bp_log::{Line, Memory, PrintError, Record, print, write_record};
+use bp_log::{Header, Line, Memory, PrintError, Record, print, write_header, write_record};
 use std::alloc::{AllocError, Global};
 use std::marker::Model;
 
@@ -58,6 +59,17 @@ impl Page {
     {
         Page {
             bytes: Vec::new(alloc),
+        }
+    }
+
+    /// A page with the head of a log of the second version.
+    pub fn headed(alloc: Global, header: &Header) -> Result<Page, Memory>
+        ensures { IfOk result (λ page. page ≡ header_text Second header.now) }
+    {
+        let mut page = Page::new(alloc);
+        match write_header(alloc, header, &mut page) {
+            Ok(()) => Ok(page),
+            Err(_) => Err(AllocError),
         }
     }
 

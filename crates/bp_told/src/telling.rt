@@ -12,8 +12,8 @@ ghost use Rattle.bp_told.specs.Told.{given, BeginsTelling, TellsOn, BreaksOff, W
 use crate::RunFault;
 use crate::page::Page;
 use bp_base::{Failed, Sink};
-use bp_log::{Header, Line, Memory, Record, write_header};
-use std::alloc::{AllocError, Global};
+use bp_log::{Header, Line, Memory, Record};
+use std::alloc::Global;
 use std::marker::Model;
 
 /// What a run tells and was not written yet. No line is written before the records that it comes of
@@ -41,11 +41,10 @@ fn head_of<L: Sink>(alloc: Global, header: &Header, log: &Option<L>) -> Result<P
     ensures { IfOk result (λ page.
         LogShows L.written log.now (header_text Second header.now) page log.now) }
 {
-    let mut page = Page::new(alloc);
-    if log.is_some() && write_header(alloc, header, &mut page).is_err() {
-        return Err(AllocError);
+    match log {
+        None => Ok(Page::new(alloc)),
+        Some(_) => Page::headed(alloc, header),
     }
-    Ok(page)
 }
 
 impl Telling {

@@ -6,13 +6,13 @@ use Rattle.bp_args.specs.declared.command.Command.TheVariants as command
 use Rattle.bp_args.specs.Command.{command_of}
 use Rattle.bpx_words.specs.declared.request.Request.{Request}
 use Rattle.bpx_words.specs.declared.request.Request.TheVariants as request
-use Rattle.bpx_words.specs.States.{state_of}
-use Rattle.bpx_words.specs.Seeds.{seeds_of}
-use Rattle.bpx_words.specs.Whys.{why_of}
+use Rattle.bpx_words.specs.States.{state_asked}
+use Rattle.bpx_words.specs.Seeds.{seeds_asked}
+use Rattle.bpx_words.specs.Whys.{why_asked}
 
-abbrev pub check_of : Option Command → Option Request
-check_of (Some (command.Accept program)) = Some (request.Check program)
-check_of _ = None
+abbrev pub check_asked : Option Command → Option Request
+check_asked (Some (command.Accept program)) = Some (request.Check program)
+check_asked _ = None
 
 abbrev pub help_of : List (List ℕ) → Option Request
 help_of [] = Some request.Help
@@ -20,10 +20,10 @@ help_of (word ∷ words) = None
 
 abbrev pub request_behind : List ℕ → List (List ℕ) → Option Request
 request_behind first words =
-    if bytes_eq first (codes "check") then check_of (command_of (codes "accept" ∷ words)) else
-    (if bytes_eq first (codes "state") then option_map request.State (state_of words) else
-    (if bytes_eq first (codes "why") then option_map request.Why (why_of words) else
-    (if bytes_eq first (codes "seeds") then option_map request.Seeds (seeds_of words) else
+    if bytes_eq first (codes "check") then check_asked (command_of (codes "accept" ∷ words)) else
+    (if bytes_eq first (codes "state") then option_map request.State (state_asked words) else
+    (if bytes_eq first (codes "why") then option_map request.Why (why_asked words) else
+    (if bytes_eq first (codes "seeds") then option_map request.Seeds (seeds_asked words) else
     (if bytes_eq first (codes "--help") then help_of words else None))))
 
 -- what the words ask for, if they are a command of `bpx`

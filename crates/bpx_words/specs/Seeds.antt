@@ -58,5 +58,5 @@ seeds_in (Some (command.Run asked)) = seeds_of_run asked
 seeds_in _ = None
 
 -- the seeds that the words ask for
-abbrev pub seeds_of : List (List ℕ) → Option PlainSeeds
-seeds_of words = seeds_in (command_of (codes "run" ∷ codes "--seed=0" ∷ words))
+abbrev pub seeds_asked : List (List ℕ) → Option PlainSeeds
+seeds_asked words = seeds_in (command_of (codes "run" ∷ codes "--seed=0" ∷ words))

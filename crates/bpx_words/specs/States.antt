@@ -40,5 +40,5 @@ abbrev pub state_at_end : List (List ℕ) → Option State
 state_at_end words = option_map (λ log. record { log = log; number = None }) (log_of words)
 
 -- the state that the words ask for
-abbrev pub state_of : List (List ℕ) → Option State
-state_of words = option_or (state_at_end words) (numbered_state words)
+abbrev pub state_asked : List (List ℕ) → Option State
+state_asked words = option_or (state_at_end words) (numbered_state words)

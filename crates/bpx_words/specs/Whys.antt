@@ -29,5 +29,5 @@ why_in p =
     (log_of p.0)
 
 -- of the log that the words before the last name, what the last asks about
-abbrev pub why_of : List (List ℕ) → Option Why
-why_of words = option_and_then why_in (last_apart words)
+abbrev pub why_asked : List (List ℕ) → Option Why
+why_asked words = option_and_then why_in (last_apart words)

@@ -1,11 +1,11 @@
 //! Requests, and the words that they are read from.
 ghost use Rattle.std.specs.Prelude.{◌≡◌, Some, None, map, string_bytes, IfOk, IsErrOf};
-ghost use Rattle.bpx_words.specs.Requests.{check_of, help_of, request_behind, request_of};
+ghost use Rattle.bpx_words.specs.Requests.{check_asked, help_of, request_behind, request_of};
 
 use crate::behind::command_behind;
-use crate::seeds::{Seeds, seeds_of};
-use crate::state::{State, state_of};
-use crate::why::{Why, why_of};
+use crate::seeds::{Seeds, seeds_asked};
+use crate::state::{State, state_asked};
+use crate::why::{Why, why_asked};
 use bp_args::{Command, Usage};
 use js_data::Text;
 use std::alloc::Global;
@@ -27,8 +27,8 @@ pub enum Request {
 
 /// The request for a check that a command of `bp` stands for.
 fn check_in(command: Command) -> Result<Request, Usage>
-    ensures request { IfOk result (λ r. check_of (Some command) ≡ Some r) }
-    ensures wrong { IsErrOf result Usage.Wrong → check_of (Some command) ≡ None }
+    ensures request { IfOk result (λ r. check_asked (Some command) ≡ Some r) }
+    ensures wrong { IsErrOf result Usage.Wrong → check_asked (Some command) ≡ None }
 {
     match command {
         Command::Accept(program) => Ok(Request::Check(program)),
@@ -56,9 +56,9 @@ fn read_behind(alloc: Global, first: &str, words: &[String]) -> Result<Request, 
 {
     match first {
         "check" => check_in(command_behind(alloc, "accept", words)?),
-        "state" => Ok(Request::State(state_of(alloc, words)?)),
-        "why" => Ok(Request::Why(why_of(alloc, words)?)),
-        "seeds" => Ok(Request::Seeds(seeds_of(alloc, words)?)),
+        "state" => Ok(Request::State(state_asked(alloc, words)?)),
+        "why" => Ok(Request::Why(why_asked(alloc, words)?)),
+        "seeds" => Ok(Request::Seeds(seeds_asked(alloc, words)?)),
         "--help" => help_in(words),
         _ => Err(Usage::Wrong),
     }

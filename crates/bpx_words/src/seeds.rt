@@ -1,6 +1,6 @@
 //! Requests for the runs of a program under some seeds.
 ghost use Rattle.std.specs.Prelude.{◌≡◌, Some, None, map, string_bytes, IfOk, IsErrOf};
-ghost use Rattle.bpx_words.specs.Seeds.{AreSeeds, seed_at, ends_of as ends_at, seeds_between, seeds_of_run, seeds_in, seeds_of};
+ghost use Rattle.bpx_words.specs.Seeds.{AreSeeds, seed_at, ends_of as ends_at, seeds_between, seeds_of_run, seeds_in, seeds_asked};
 
 use crate::behind::{command_behind, words_behind};
 use bp_args::{Command, Run, Usage};
@@ -152,9 +152,9 @@ fn seeds_in(command: Command) -> Result<Seeds, Usage>
 }
 
 /// The seeds that the words ask for.
-pub(crate) fn seeds_of(alloc: Global, words: &[String]) -> Result<Seeds, Usage>
-    ensures seeds { IfOk result (λ s. seeds_of (map string_bytes words.now) ≡ Some s) }
-    ensures wrong { IsErrOf result Usage.Wrong → seeds_of (map string_bytes words.now) ≡ None }
+pub(crate) fn seeds_asked(alloc: Global, words: &[String]) -> Result<Seeds, Usage>
+    ensures seeds { IfOk result (λ s. seeds_asked (map string_bytes words.now) ≡ Some s) }
+    ensures wrong { IsErrOf result Usage.Wrong → seeds_asked (map string_bytes words.now) ≡ None }
 {
     let said = words_behind(alloc, "--seed=0", words)?;
     seeds_in(command_behind(alloc, "run", said.as_slice())?)

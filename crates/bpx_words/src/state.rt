@@ -1,7 +1,7 @@
 //! Requests for the state of a run.
 ghost use Rattle.std.specs.Prelude.{◌≡◌, Some, None, map, option_map, string_bytes, IfOk, IsErrOf};
 ghost use Rattle.bp_args.specs.declared.command.Command.{Command};
-ghost use Rattle.bpx_words.specs.States.{log_in, log_of, last_apart, numbered, numbered_state, state_of};
+ghost use Rattle.bpx_words.specs.States.{log_in, log_of, last_apart, numbered, numbered_state, state_asked};
 
 use crate::behind::command_behind;
 use bp_args::{Command, Usage};
@@ -73,9 +73,9 @@ fn numbered_state(alloc: Global, words: &[String]) -> Result<State, Usage>
 }
 
 /// The state that the words ask for.
-pub(crate) fn state_of(alloc: Global, words: &[String]) -> Result<State, Usage>
-    ensures state { IfOk result (λ s. state_of (map string_bytes words.now) ≡ Some s) }
-    ensures wrong { IsErrOf result Usage.Wrong → state_of (map string_bytes words.now) ≡ None }
+pub(crate) fn state_asked(alloc: Global, words: &[String]) -> Result<State, Usage>
+    ensures state { IfOk result (λ s. state_asked (map string_bytes words.now) ≡ Some s) }
+    ensures wrong { IsErrOf result Usage.Wrong → state_asked (map string_bytes words.now) ≡ None }
 {
     match log_of(alloc, words) {
         Ok(log) => Ok(State { log, number: None }),

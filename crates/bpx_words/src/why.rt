@@ -1,6 +1,6 @@
 //! Requests for why an event was selected, and for who asks for one.
 ghost use Rattle.std.specs.Prelude.{◌≡◌, Some, None, map, string_bytes, IfOk, IsErrOf};
-ghost use Rattle.bpx_words.specs.Whys.{selection_at, subject_at, why_of};
+ghost use Rattle.bpx_words.specs.Whys.{selection_at, subject_at, why_asked};
 
 use crate::state::{last_apart, log_of};
 use bp_args::Usage;
@@ -46,9 +46,9 @@ fn subject_of(alloc: Global, word: &str) -> Result<Subject, Usage>
 }
 
 /// The log and what is asked about it, as the words say it.
-pub(crate) fn why_of(alloc: Global, words: &[String]) -> Result<Why, Usage>
-    ensures why { IfOk result (λ w. why_of (map string_bytes words.now) ≡ Some w) }
-    ensures wrong { IsErrOf result Usage.Wrong → why_of (map string_bytes words.now) ≡ None }
+pub(crate) fn why_asked(alloc: Global, words: &[String]) -> Result<Why, Usage>
+    ensures why { IfOk result (λ w. why_asked (map string_bytes words.now) ≡ Some w) }
+    ensures wrong { IsErrOf result Usage.Wrong → why_asked (map string_bytes words.now) ≡ None }
 {
     let Some((front, last)) = last_apart(words) else {
         return Err(Usage::Wrong);
