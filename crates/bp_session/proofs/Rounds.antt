@@ -5,6 +5,7 @@ use Rattle.std.proofs.lemmas.List.{append_cancel_left}
 use Rattle.bp_log.specs.declared.record.Record.{Record}
 use Rattle.bp_log.specs.declared.trace.Line.{Line}
 use Rattle.bp_run.specs.Text.{text}
+use Rattle.bp_steps.specs.Merging.{items_by}
 use Rattle.bp_steps.specs.Steps.{pair_at}
 use Rattle.bp_floor.specs.declared.phase.Phase.{Phase}
 use Rattle.bp_floor.specs.declared.phase.Phase.TheVariants.{Rest, Over}
@@ -181,6 +182,11 @@ picked_heard {b = b} d readings r h k = heard_kept b.arbiter.records d.arbiter.r
 -- injectors were heard, nothing entered, and so nothing was recorded
 pub none_heard : {a b : Core} {heard : Bool} → HearsOn a b → heard ≡ nat_lt (length a.arbiter.records) (length b.arbiter.records) → heard ≡ false → b.arbiter.records ≡ a.arbiter.records
 none_heard {a = a} {b = b} h some none = no_longer a b h (sym some ∙ none)
+
+-- nothing entered, and what comes next records nothing of injectors
+pub items_stay : {L : Type 0} {written : L → Option (List ℕ)} {a b : Core} {now : Given L} {w : Waiting} {heard : Bool} (d : Core) → IsReady written a now w → HearsOn a b →
+    heard ≡ nat_lt (length a.arbiter.records) (length b.arbiter.records) → (IsSomewhereHere b → KeepsItems b.arbiter.records d.arbiter.records) → heard ≡ false → KeepsItems a.arbiter.records d.arbiter.records
+items_stay d r h some kept none k = kept (heard_somewhere r h) k ∙ ap (λ (rs : List Record). items_by k rs) (none_heard h some none)
 
 pub somewhere_ready : {L : Type 0} {written : L → Option (List ℕ)} {c : Core} {now : Given L} {w : Waiting} → IsReady written c now w → IsSomewhereHere c
 somewhere_ready {written = written} {c = c} {now = now} {w = w} r = ready_somewhere written c now w r

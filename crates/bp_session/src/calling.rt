@@ -1,8 +1,12 @@
 //! How a session is woken by its injectors, and wakes them.
-ghost use Rattle.bp_session.specs.inner.Turning.{IsWaiting};
+ghost use Rattle.std.specs.Prelude.{◌≡◌, false};
+ghost use Rattle.std.specs.List.{list_any};
+ghost use Rattle.bp_session.specs.inner.Turning.{turns_here, IsWaiting};
 
 use crate::written::Written;
+use bp_base::Source;
 use bp_lanes::{Bell, ROOM, Rope, Wake};
+use bp_scope::Reading;
 use std::sync::Wait;
 use std::thread::Threads;
 
@@ -29,11 +33,18 @@ impl<'a> Calls<'a> {
         self.rope.halted(rt)
     }
 
-    /// Waits until an injector rings.
-    pub(crate) fn wait<R: Threads + Wait + Sync>(&mut self, rt: &R, written: Written<'_>)
+    /// Waits until an injector rings. None of them is one whose turns the session makes itself.
+    pub(crate) fn wait<S: Source, R: Threads + Wait + Sync>(
+        &mut self,
+        rt: &R,
+        written: Written<'_>,
+        readings: &Vec<Reading<S>>,
+    )
         requires waiting { IsWaiting written.core.now }
+        requires nobody { list_any turns_here readings.now.items ≡ false }
     {
         let _ = written;
+        let _ = readings;
         self.rope.wait(rt);
     }
 

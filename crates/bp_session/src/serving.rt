@@ -1,9 +1,14 @@
 //! The loop that serves a session.
-ghost use Rattle.std.specs.Prelude.{◌≡◌, Some, false, IfOk, IfErr, OnOk, OnErr};
+ghost use Rattle.std.specs.Prelude.{◌≡◌, List, Some, false, IfOk, IfErr, IsTrue, OnOk, OnErr};
 ghost use Rattle.std.specs.List.{list_any};
+ghost use Rattle.js_meaning.specs.Bodies.{Origin};
 ghost use Rattle.bp_log.specs.Records.{verdict_of};
+ghost use Rattle.bp_log.specs.declared.trace.Line.{Line};
+ghost use Rattle.bp_steps.specs.Steps.{Moment};
+ghost use Rattle.bp_arbiter.specs.Arbiters.{coming};
+ghost use Rattle.bp_arbiter.specs.Pick.{picked_of};
 ghost use Rattle.bp_floor.specs.declared.phase.Phase.TheVariants as phase;
-ghost use Rattle.bp_core.specs.Cores.{KeepsProgram};
+ghost use Rattle.bp_core.specs.Cores.{IsCoreAt, KeepsProgram};
 ghost use Rattle.bp_scope.specs.Readings.{Pairs, GoesOnAs};
 ghost use Rattle.bp_told.specs.Told.{NothingWaits, WritesAll};
 ghost use Rattle.bp_session.specs.inner.Hearing.{AreAsHeard, AreHeardOut, HearOn, CanServe};
@@ -73,6 +78,8 @@ fn turn_here<S: Source, R: Threads + Wait + Sync, K: Sink, L: Sink, V: Shows>(
     ensures stops { IfErr result (StopsTurning L.written (given_to K.Sink outlets.old) telling.old
         (given_to K.Sink outlets.new) telling.new) }
     ensures some { IfOk result (λ some. some ≡ list_any turns_here readings.old.items) }
+    ensures rested { IfOk result (λ some. some ≡ false →
+        list_any turns_here readings.new.items ≡ false) }
     ensures turns { OnOk result (MakeTurns readings.old.items readings.new.items) }
     ensures goes_on { Pairs (GoesOnAs S.left S.faults) readings.old.items readings.new.items }
     ensures hearing { AreAsHeard readings.old.items readings.new.items }
@@ -88,17 +95,23 @@ fn turn_here<S: Source, R: Threads + Wait + Sync, K: Sink, L: Sink, V: Shows>(
 }
 
 /// Waits until an injector rings, where there are any.
-fn wait_at<R: Threads + Wait + Sync>(rt: &R, calls: &mut Option<Calls<'_>>, written: Written<'_>)
+fn wait_at<S: Source, R: Threads + Wait + Sync>(
+    rt: &R,
+    calls: &mut Option<Calls<'_>>,
+    written: Written<'_>,
+    readings: &Vec<Reading<S>>,
+)
     requires waiting { IsWaiting written.core.now }
+    requires nobody { list_any turns_here readings.now.items ≡ false }
 {
     if let Some(calls) = calls {
-        calls.wait(rt, written);
+        calls.wait(rt, written, readings);
     }
 }
 
-/// The run waits: if the session is to wait for it, all of the run is written, and then it waits until an
-/// injector rings.
-fn wait_where<R: Threads + Wait + Sync, K: Sink, L: Sink, V: Shows>(
+/// The run waits: if the session is to wait for it, which it may where it has no turns of its own left, all
+/// of the run is written, and then it waits until an injector rings.
+fn wait_where<S: Source, R: Threads + Wait + Sync, K: Sink, L: Sink, V: Shows>(
     rt: &R,
     alloc: Global,
     waits: bool,
@@ -106,10 +119,12 @@ fn wait_where<R: Threads + Wait + Sync, K: Sink, L: Sink, V: Shows>(
     telling: &mut Telling,
     outlets: &mut Outlets<'_, '_, K, L>,
     calls: &mut Option<Calls<'_>>,
+    readings: &Vec<Reading<S>>,
     shows: &mut V,
 ) -> Result<(), Stop>
     requires waiting { IsWaiting core.now }
     requires untold { NothingUntold core.now telling.old }
+    requires nobody { IsTrue waits → list_any turns_here readings.now.items ≡ false }
     ensures told { OnOk result (IsToldStill L.written waits (given_to K.Sink outlets.old)
         telling.old (given_to K.Sink outlets.new) telling.new) }
     ensures stops { IfErr result (StopsTurning L.written (given_to K.Sink outlets.old) telling.old
@@ -120,7 +135,7 @@ fn wait_where<R: Threads + Wait + Sync, K: Sink, L: Sink, V: Shows>(
         return Ok(());
     }
     write_and_show(rt, alloc, core, telling, outlets, shows)?;
-    wait_at(rt, calls, Written::of(core, telling));
+    wait_at(rt, calls, Written::of(core, telling), readings);
     Ok(())
 }
 
@@ -173,6 +188,9 @@ fn ring_where<R: Threads + Wait + Sync>(
 /// Makes what comes next.
 fn pick(core: &mut Core) -> Result<Picked, Memory>
     requires rest { core.old.arbiter.phase ≡ phase.Rest }
+    ensures picked { IfOk result (λ k. (taken : List Line) (m : Moment Origin) →
+        IsCoreAt core.old core.old.jobs.items taken m →
+        k ≡ picked_of (coming core.old.arbiter m.told)) }
     ensures picks { OnOk result (LeadsOn core.old core.new) }
     ensures waits { IfOk result (λ k. IsSomewhereHere core.old → k ≡ Picked.Wait →
         IsWaiting core.new) }
@@ -210,6 +228,8 @@ fn round<S: Source, R: Threads + Wait + Sync, K: Sink, L: Sink, V: Shows>(
         telling.old core.new (given_to K.Sink outlets.new) telling.new readings.new.items) }
     ensures hears { HearOn S.left S.faults core.new.arbiter.records readings.old.items
         readings.new.items }
+    ensures heard { IfOk result (λ heard. heard ≡ false →
+        KeepsItems core.old.arbiter.records core.new.arbiter.records) }
     ensures writes { WritesTo K.Sink L.Sink outlets.old outlets.new (served_fault result) }
 {
     ask_halt(rt, calls)?;
@@ -222,7 +242,9 @@ fn round<S: Source, R: Threads + Wait + Sync, K: Sink, L: Sink, V: Shows>(
         return Ok(heard);
     }
     let turned = turn_here(rt, alloc, core, telling, outlets, readings, shows)?;
-    wait_where(rt, alloc, !turned, core, telling, outlets, calls, shows)?;
+    wait_where(
+        rt, alloc, !turned, core, telling, outlets, calls, readings, shows,
+    )?;
     Ok(false)
 }
 

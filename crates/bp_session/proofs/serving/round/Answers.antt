@@ -1,4 +1,4 @@
-use Rattle.std.proofs.Common.{rules}
+use Rattle.std.proofs.Common.{◌≡◌, false, rules}
 use Rattle.bp_scope.specs.Readings.{GoesOnAs}
 use Rattle.bp_scope.proofs.Readings.{pairs_many}
 use Rattle.bp_session.specs.inner.Outlets.{given_to}
@@ -7,7 +7,7 @@ use Rattle.bp_session.specs.declared.stop.Stop.TheVariants as stop
 use Rattle.bp_session.specs.inner.Serving.{StopsServing}
 use Rattle.bp_session.proofs.Hears.{heard_still, go_none, go_both, all_out}
 use Rattle.bp_session.proofs.Causes.{writes_none, writes_lack, writes_on, hearing_writes, memory_writes, stops_at}
-use Rattle.bp_session.proofs.Rounds.{from_err, whole_ready, hear_serves, picked_serves, serves_still, breaks_then, pick_breaks, memory_stops, hear_stops, turn_stops_then, heard_somewhere, picked_heard, none_heard, somewhere_ready, untold_waits}
+use Rattle.bp_session.proofs.Rounds.{from_err, whole_ready, hear_serves, picked_serves, serves_still, breaks_then, pick_breaks, memory_stops, hear_stops, turn_stops_then, heard_somewhere, picked_heard, none_heard, somewhere_ready, untold_waits, items_stay}
 use Rattle.bp_session.proofs.serving.round.Goals as goal
 
 pub returns-in_err-ask_halt-clause-stops : goal.returns-in_err-ask_halt-clause-stops
@@ -152,3 +152,18 @@ returns-clause-hears g c =
           (heard_still c.hear_all.new.core.arbiter.records c.hear_all.new.readings.items c.turn_here.new.readings.items c.turn_here.ensures.hearing c.hear_all.ensures.heard);
       goes_on = go_both g.S.Source.left g.S.Source.faults c.args.readings.now.items c.hear_all.new.readings.items c.turn_here.new.readings.items c.hear_all.ensures.goes_on c.turn_here.ensures.goes_on;
     }
+
+-- if nothing was heard, nothing of an injector is recorded
+pub returns-then-heard-clause-heard : goal.returns-then-heard-clause-heard
+returns-then-heard-clause-heard g c = λ none.
+    items_stay c.pick.new.core c.requires.can.ready c.hear_all.ensures.hears c.in_ok-heard.ensures.some c.pick.ensures.items none
+
+pub returns-clause-heard : goal.returns-clause-heard
+returns-clause-heard g c = λ none.
+    items_stay c.pick.new.core c.requires.can.ready c.hear_all.ensures.hears c.in_ok-heard.ensures.some c.pick.ensures.items (search rules)
+
+-- no own turn was left, so the session may wait
+pub wait_where-requires-clause-nobody : goal.wait_where-requires-clause-nobody
+wait_where-requires-clause-nobody g c κs o = λ w.
+    let none : c.in_ok-turned.turned ≡ false = search rules in
+    c.in_ok-turned.ensures.rested none
