@@ -264,6 +264,13 @@ heard_still records old new s h k d less =
     let there : k < length old = omega (arith, many, less) in
     subst (λ (x : Hearing). IsRecorded k records x) (sym (s.each k d d there)) (h k d there)
 
+-- and heard out as before
+pub out_still : {S : Type 0} (c : Core) (old new : List (Reading S)) → AreAsHeard old new → AreHeardOut c old → AreHeardOut c new
+out_still c old new s h k d less =
+    let many = s.many in
+    let there : k < length old = omega (arith, many, less) in
+    subst (λ (x : Hearing). IsHeardOut k c x) (sym (s.each k d d there)) (h k d there)
+
 -- what was recorded of injectors stays, and they are heard as far as before
 pub heard_kept : {S : Type 0} (before after : List Record) (readings : List (Reading S)) → KeepsItems before after → AreHeard (λ (r : Reading S). r.hearing) before readings → AreHeard (λ (r : Reading S). r.hearing) after readings
 heard_kept before after readings e h k d less =

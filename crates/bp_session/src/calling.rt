@@ -1,6 +1,7 @@
 //! How a session is woken by its injectors, and wakes them.
 ghost use Rattle.std.specs.Prelude.{◌≡◌, false};
 ghost use Rattle.std.specs.List.{list_any};
+ghost use Rattle.bp_session.specs.inner.Hearing.{AreHeardOut};
 ghost use Rattle.bp_session.specs.inner.Turning.{turns_here, IsWaiting};
 
 use crate::written::Written;
@@ -33,7 +34,9 @@ impl<'a> Calls<'a> {
         self.rope.halted(rt)
     }
 
-    /// Waits until an injector rings. None of them is one whose turns the session makes itself.
+    /// Waits until an injector rings, or the bell is halted. Asks that the run waits, that all of it is
+    /// written, that each of these injectors was heard out, and that none has a turn left for the
+    /// session to make. No clause says that it waits.
     pub(crate) fn wait<S: Source, R: Threads + Wait + Sync>(
         &mut self,
         rt: &R,
@@ -41,6 +44,7 @@ impl<'a> Calls<'a> {
         readings: &Vec<Reading<S>>,
     )
         requires waiting { IsWaiting written.core.now }
+        requires heard { AreHeardOut written.core.now readings.now.items }
         requires nobody { list_any turns_here readings.now.items ≡ false }
     {
         let _ = written;

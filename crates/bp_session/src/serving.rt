@@ -4,11 +4,12 @@ ghost use Rattle.std.specs.List.{list_any};
 ghost use Rattle.js_meaning.specs.Bodies.{Origin};
 ghost use Rattle.bp_log.specs.Records.{verdict_of};
 ghost use Rattle.bp_log.specs.declared.trace.Line.{Line};
+ghost use Rattle.bp_steps.specs.declared.step.CoreStep.TheVariants as step;
 ghost use Rattle.bp_steps.specs.Steps.{Moment};
 ghost use Rattle.bp_arbiter.specs.Arbiters.{coming};
 ghost use Rattle.bp_arbiter.specs.Pick.{picked_of};
 ghost use Rattle.bp_floor.specs.declared.phase.Phase.TheVariants as phase;
-ghost use Rattle.bp_core.specs.Cores.{IsCoreAt, KeepsProgram};
+ghost use Rattle.bp_core.specs.Cores.{IsCoreAt, KeepsProgram, Makes};
 ghost use Rattle.bp_scope.specs.Readings.{Pairs, GoesOnAs};
 ghost use Rattle.bp_told.specs.Told.{NothingWaits, WritesAll};
 ghost use Rattle.bp_session.specs.inner.Hearing.{AreAsHeard, AreHeardOut, HearOn, CanServe};
@@ -102,6 +103,7 @@ fn wait_at<S: Source, R: Threads + Wait + Sync>(
     readings: &Vec<Reading<S>>,
 )
     requires waiting { IsWaiting written.core.now }
+    requires heard { AreHeardOut written.core.now readings.now.items }
     requires nobody { list_any turns_here readings.now.items ≡ false }
 {
     if let Some(calls) = calls {
@@ -124,6 +126,7 @@ fn wait_where<S: Source, R: Threads + Wait + Sync, K: Sink, L: Sink, V: Shows>(
 ) -> Result<(), Stop>
     requires waiting { IsWaiting core.now }
     requires untold { NothingUntold core.now telling.old }
+    requires heard { AreHeardOut core.now readings.now.items }
     requires nobody { IsTrue waits → list_any turns_here readings.now.items ≡ false }
     ensures told { OnOk result (IsToldStill L.written waits (given_to K.Sink outlets.old)
         telling.old (given_to K.Sink outlets.new) telling.new) }
@@ -191,6 +194,7 @@ fn pick(core: &mut Core) -> Result<Picked, Memory>
     ensures picked { IfOk result (λ k. (taken : List Line) (m : Moment Origin) →
         IsCoreAt core.old core.old.jobs.items taken m →
         k ≡ picked_of (coming core.old.arbiter m.told)) }
+    ensures makes { OnOk result (Makes core.old core.new step.Pick) }
     ensures picks { OnOk result (LeadsOn core.old core.new) }
     ensures waits { IfOk result (λ k. IsSomewhereHere core.old → k ≡ Picked.Wait →
         IsWaiting core.new) }
@@ -206,7 +210,7 @@ fn pick(core: &mut Core) -> Result<Picked, Memory>
 
 /// Has what is there of the injectors enter, and then makes what comes next. Only if nothing entered and
 /// the run waits, all of it is written, and own turns are made, or else the session waits for an injector.
-/// Answers whether something entered.
+/// Answers false only if nothing entered.
 fn round<S: Source, R: Threads + Wait + Sync, K: Sink, L: Sink, V: Shows>(
     rt: &R,
     alloc: Global,
@@ -228,7 +232,7 @@ fn round<S: Source, R: Threads + Wait + Sync, K: Sink, L: Sink, V: Shows>(
         telling.old core.new (given_to K.Sink outlets.new) telling.new readings.new.items) }
     ensures hears { HearOn S.left S.faults core.new.arbiter.records readings.old.items
         readings.new.items }
-    ensures heard { IfOk result (λ heard. heard ≡ false →
+    ensures unheard { IfOk result (λ heard. heard ≡ false →
         KeepsItems core.old.arbiter.records core.new.arbiter.records) }
     ensures writes { WritesTo K.Sink L.Sink outlets.old outlets.new (served_fault result) }
 {

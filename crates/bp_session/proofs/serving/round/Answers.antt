@@ -5,7 +5,7 @@ use Rattle.bp_session.specs.inner.Outlets.{given_to}
 use Rattle.bp_told.specs.declared.fault.RunFault.TheVariants.{Memory}
 use Rattle.bp_session.specs.declared.stop.Stop.TheVariants as stop
 use Rattle.bp_session.specs.inner.Serving.{StopsServing}
-use Rattle.bp_session.proofs.Hears.{heard_still, go_none, go_both, all_out}
+use Rattle.bp_session.proofs.Hears.{heard_still, go_none, go_both, all_out, out_still}
 use Rattle.bp_session.proofs.Causes.{writes_none, writes_lack, writes_on, hearing_writes, memory_writes, stops_at}
 use Rattle.bp_session.proofs.Rounds.{from_err, whole_ready, hear_serves, picked_serves, serves_still, breaks_then, pick_breaks, memory_stops, hear_stops, turn_stops_then, heard_somewhere, picked_heard, none_heard, somewhere_ready, untold_waits, items_stay}
 use Rattle.bp_session.proofs.serving.round.Goals as goal
@@ -154,12 +154,12 @@ returns-clause-hears g c =
     }
 
 -- if nothing was heard, nothing of an injector is recorded
-pub returns-then-heard-clause-heard : goal.returns-then-heard-clause-heard
-returns-then-heard-clause-heard g c = λ none.
+pub returns-then-heard-clause-unheard : goal.returns-then-heard-clause-unheard
+returns-then-heard-clause-unheard g c = λ none.
     items_stay c.pick.new.core c.requires.can.ready c.hear_all.ensures.hears c.in_ok-heard.ensures.some c.pick.ensures.items none
 
-pub returns-clause-heard : goal.returns-clause-heard
-returns-clause-heard g c = λ none.
+pub returns-clause-unheard : goal.returns-clause-unheard
+returns-clause-unheard g c = λ none.
     items_stay c.pick.new.core c.requires.can.ready c.hear_all.ensures.hears c.in_ok-heard.ensures.some c.pick.ensures.items (search rules)
 
 -- no own turn was left, so the session may wait
@@ -167,3 +167,11 @@ pub wait_where-requires-clause-nobody : goal.wait_where-requires-clause-nobody
 wait_where-requires-clause-nobody g c κs o = λ w.
     let none : c.in_ok-turned.turned ≡ false = search rules in
     c.in_ok-turned.ensures.rested none
+
+-- each injector was heard out, also after the own turns, of which there was none
+pub wait_where-requires-clause-heard : goal.wait_where-requires-clause-heard
+wait_where-requires-clause-heard g c κs o =
+    let still = none_heard c.hear_all.ensures.hears c.in_ok-heard.ensures.some (search rules) in
+    out_still c.pick.new.core c.hear_all.new.readings.items c.turn_here.new.readings.items c.turn_here.ensures.hearing
+    (all_out c.args.core.now c.hear_all.new.core c.pick.new.core c.args.readings.now.items c.hear_all.new.readings.items (somewhere_ready c.requires.can.ready) still (c.in_ok-picked.ensures.stays (search rules))
+    (pairs_many (GoesOnAs g.S.Source.left g.S.Source.faults) c.args.readings.now.items c.hear_all.new.readings.items c.hear_all.ensures.goes_on) c.in_ok-heard.ensures.were)
