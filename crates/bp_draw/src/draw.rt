@@ -35,14 +35,14 @@ impl Draw {
         self.drawn
     }
 
-    /// The next word.
+    /// The word that is drawn next. It stays the next until [`Draw::advance`] is called.
     pub fn word(&self) -> u32
         ensures { result ≡ draw_word self.now.seed self.now.drawn }
     {
         word_of(self.seed, self.drawn)
     }
 
-    /// One word more is drawn.
+    /// The next word is drawn: the one behind it is the next. At most 2^64 - 1 words are drawn.
     pub fn advance(&mut self)
         requires { self.old.drawn + 1 < 2 ^ 64 }
         ensures { self.new ≡ record { seed = self.old.seed; drawn = self.old.drawn + 1 } }

@@ -1,11 +1,11 @@
 -- Counts, and those of each block together.
-use Rattle.std.proofs.Common.{◌≡◌, ℕ, zero, suc, ◌+◌, ◌*◌, ◌-◌, ◌/◌, ◌<◌, ◌≤◌, arith, Bool, true, false, nat_eq, nat_lt, List, [], ◌∷◌, ◌++◌, length, take, set, get_or, refl, ap, sym, ◌∙◌, subst}
+use Rattle.std.proofs.Common.{◌≡◌, ℕ, zero, suc, ◌+◌, ◌*◌, ◌-◌, ◌/◌, ◌<◌, ◌≤◌, arith, Bool, true, false, nat_eq, nat_lt, List, [], ◌∷◌, ◌++◌, drop, length, take, set, get_or, refl, ap, sym, ◌∙◌, subst}
 use Rattle.std.specs.Prelude.{sum}
 use Rattle.std.proofs.lemmas.Bool.{eq-eqb, eqb-true, ltb-true, ltb-false}
 use Rattle.std.proofs.lemmas.List.{length-set, length_push, get_or-set_same, get_or-set_other, take-set-le, take_all, take_more}
-use Rattle.std.proofs.lemmas.List.Sums.{sum_by-cons, sum_by_push}
-use Rattle.bp_roll.specs.Counting.{AreSums}
-use Rattle.bp_roll.specs.Counting.{count_at}
+use Rattle.std.proofs.lemmas.List.Sums.{sum_by-append, sum_by-cons, sum_by-take-le, sum_by_push}
+use Rattle.std.proofs.Math.Seq.{take-add}
+use Rattle.bp_roll.specs.Counting.{AreSums, count_at, of_block}
 
 -- ---- counts
 
@@ -83,13 +83,34 @@ sum_all xs k h = ap (λ (ys : List ℕ). sum ys) (take_all k xs h)
 
 -- ---- sums of blocks
 
+-- the counts up to the end of a block
+block_end : (xs : List ℕ) (i : ℕ) → sum (take (64 * (i + 1)) xs) ≡ sum (take (64 * i) xs) + of_block xs i
+block_end xs i =
+    let k : 64 * (i + 1) ≡ 64 * i + 64 = omega arith in
+    ap (λ (n : ℕ). sum (take n xs)) k ∙ ap (λ (ys : List ℕ). sum ys) (take-add (64 * i) 64 xs) ∙ sum_by-append (λ x. x) (take (64 * i) xs) (take 64 (drop (64 * i) xs))
+
+block_is : (xs : List ℕ) (i c : ℕ) → sum (take (64 * (i + 1)) xs) ≡ sum (take (64 * i) xs) + c → c ≡ of_block xs i
+block_is xs i c h = let p = block_end xs i in omega (arith, p, h)
+
+-- a sum is what its block adds
+each_adds : (sums xs : List ℕ) (i : ℕ) → AreSums sums xs → i < length sums → sum (take (64 * (i + 1)) xs) ≡ sum (take (64 * i) xs) + count_at sums i
+each_adds sums xs i h low = block_end xs i ∙ ap (λ (n : ℕ). sum (take (64 * i) xs) + n) (sym (h.each i low))
+
+pub blocks_push : (xs : List ℕ) (b : ℕ) → of_block (xs ++ 0 ∷ []) b ≡ of_block xs b
+blocks_push xs b =
+    let p = block_end (xs ++ 0 ∷ []) b in
+    let q = block_end xs b in
+    let r = sum_push xs (64 * (b + 1)) in
+    let t = sum_push xs (64 * b) in
+    omega (arith, p, q, r, t)
+
 pub no_sums : AreSums [] []
 no_sums = record { each = λ i low. absurd (omega (arith, low)); all = omega arith }
 
 -- one block more
 pub block_more : (sums xs : List ℕ) → AreSums sums xs → AreSums (sums ++ 0 ∷ []) xs
 block_more sums xs h = record {
-  each = λ i low. by i (nat_lt i (length sums)) refl (omega (arith, low, long));
+  each = λ i low. block_is xs i (count_at (sums ++ 0 ∷ []) i) (by i (nat_lt i (length sums)) refl (omega (arith, low, long)));
   all = let a = h.all in omega (arith, a, long);
 }
   where
@@ -97,7 +118,7 @@ block_more sums xs h = record {
     long = length_push sums 0
 
     by : (i : ℕ) (b : Bool) → nat_lt i (length sums) ≡ b → i ≤ length sums → sum (take (64 * (i + 1)) xs) ≡ sum (take (64 * i) xs) + count_at (sums ++ 0 ∷ []) i
-    by i true e low = h.each i (ltb-true i (length sums) e) ∙ ap (λ (n : ℕ). sum (take (64 * i) xs) + n) (sym (counts_push sums i))
+    by i true e low = each_adds sums xs i h (ltb-true i (length sums) e) ∙ ap (λ (n : ℕ). sum (take (64 * i) xs) + n) (sym (counts_push sums i))
     by i false e low =
         let a = h.all in
         let m : length sums ≤ i = ltb-false i (length sums) e in
@@ -109,7 +130,7 @@ block_more sums xs h = record {
 -- one count more, where there is a block for it
 pub count_more : (sums xs : List ℕ) → length xs < 64 * length sums → AreSums sums xs → AreSums sums (xs ++ 0 ∷ [])
 count_more sums xs room h = record {
-  each = λ i low. sum_push xs (64 * (i + 1)) ∙ h.each i low ∙ ap (λ (n : ℕ). n + count_at sums i) (sym (sum_push xs (64 * i)));
+  each = λ i low. h.each i low ∙ sym (blocks_push xs i);
   all = let l = length_push xs 0 in omega (arith, room, l);
 }
 
@@ -123,14 +144,14 @@ block_within sums xs n h low = let a = h.all in omega (arith, a, low)
 pub block_has : (sums xs : List ℕ) (n : ℕ) → AreSums sums xs → n < length xs → count_at xs n ≤ count_at sums (n / 64)
 block_has sums xs n h low =
     let b = block_within sums xs n h low in
-    let p = h.each (n / 64) b in
+    let p = each_adds sums xs (n / 64) h b in
     let q = sum_has xs (64 * (n / 64)) n (64 * (n / 64 + 1)) (omega arith) (omega arith) low in
     omega (arith, p, q)
 
 -- a count is another, and so is its block
 pub sums_set : (sums xs : List ℕ) (n c s : ℕ) → AreSums sums xs → n < length xs → s ≡ (count_at sums (n / 64) - count_at xs n) + c → AreSums (set sums (n / 64) s) (set xs n c)
 sums_set sums xs n c s h low is = record {
-  each = λ i within. by i (subst (λ (m : ℕ). i < m) (length-set sums (n / 64) s) within) (nat_lt i (n / 64)) refl (nat_eq i (n / 64)) refl;
+  each = λ i within. block_is (set xs n c) i (count_at (set sums (n / 64) s) i) (by i (subst (λ (m : ℕ). i < m) (length-set sums (n / 64) s) within) (nat_lt i (n / 64)) refl (nat_eq i (n / 64)) refl);
   all = let a = h.all in let p = length-set sums (n / 64) s in let q = length-set xs n c in omega (arith, a, p, q);
 }
   where
@@ -138,14 +159,14 @@ sums_set sums xs n c s h low is = record {
     by i within true e true f = let l = ltb-true i (n / 64) e in let m = eqb-true i (n / 64) f in absurd (omega (arith, l, m))
     by i within true e false f =
         let l = ltb-true i (n / 64) e in
-        sum_before xs n c (64 * (i + 1)) (omega (arith, l)) ∙ h.each i within
+        sum_before xs n c (64 * (i + 1)) (omega (arith, l)) ∙ each_adds sums xs i h within
         ∙ ap (λ (m : ℕ). m + count_at sums i) (sym (sum_before xs n c (64 * i) (omega (arith, l))))
         ∙ ap (λ (m : ℕ). sum (take (64 * i) (set xs n c)) + m) (sym (counts_other sums (n / 64) s i f))
     by i within false e true f =
         let m = eqb-true i (n / 64) f in
         let p = sum_set xs n c (64 * (i + 1)) low (omega (arith, m)) in
         let q = sum_before xs n c (64 * i) (omega (arith, m)) in
-        let r = h.each i within in
+        let r = each_adds sums xs i h within in
         let t = subst (λ (j : ℕ). count_at xs n ≤ count_at sums j) (sym m) (block_has sums xs n h low) in
         let u = ap (λ (j : ℕ). count_at sums j) m in
         let v : count_at (set sums (n / 64) s) i ≡ s = ap (λ (j : ℕ). count_at (set sums (n / 64) s) j) m ∙ get_or-set_same sums (n / 64) s 0 (block_within sums xs n h low) in
@@ -155,18 +176,42 @@ sums_set sums xs n c s h low is = record {
         let l = ltb-false i (n / 64) e in
         let p = sum_set xs n c (64 * (i + 1)) low (omega (arith, g, l)) in
         let q = sum_set xs n c (64 * i) low (omega (arith, g, l)) in
-        let r = h.each i within in
+        let r = each_adds sums xs i h within in
         let v = counts_other sums (n / 64) s i f in
         omega (arith, p, q, r, v)
 
 -- ---- all of them
 
-pub total_first : (sums xs : List ℕ) (i t x u : ℕ) → AreSums sums xs → i < length sums → x ≡ get_or sums i x → t ≡ sum (take (64 * i) xs) → u ≡ t + x → u ≡ sum (take (64 * (i + 1)) xs)
-total_first sums xs i t x u h low is was now = let p = h.each i low in let q = is ∙ count_is sums i x low in omega (arith, p, q, was, now)
+pub total_next : (sums xs : List ℕ) (i t : ℕ) → AreSums sums xs → i < length sums → t ≡ sum (take (64 * i) xs) → t + count_at sums i ≡ sum (take (64 * (i + 1)) xs)
+total_next sums xs i t h low was = let p = each_adds sums xs i h low in omega (arith, p, was)
+
+-- those before one block more are past this, and so are all
+pub total_over : (sums xs : List ℕ) (i t most : ℕ) → AreSums sums xs → i < length sums → t ≡ sum (take (64 * i) xs) → ((t + count_at sums i < most) → ⊥) → most ≤ sum xs
+total_over sums xs i t most h low was over =
+    let p = total_next sums xs i t h low was in
+    let q = sum_by-take-le (λ x. x) xs (64 * (i + 1)) in
+    omega (arith, p, q, over)
 
 pub total_last : (sums xs : List ℕ) (i t : ℕ) → AreSums sums xs → length sums ≤ i → t ≡ sum (take (64 * i) xs) → t ≡ sum xs
 total_last sums xs i t h past was = let a = h.all in was ∙ sum_all xs (64 * i) (omega (arith, a, past))
 
+-- a block that is not empty begins below the last count
+pub block_begins : (sums xs : List ℕ) (i : ℕ) → AreSums sums xs → i < length sums → 0 < count_at sums i → 64 * i < length xs
+block_begins sums xs i h low some = by (nat_lt (64 * i) (length xs)) refl
+  where
+    by : (b : Bool) → nat_lt (64 * i) (length xs) ≡ b → 64 * i < length xs
+    by true e = ltb-true (64 * i) (length xs) e
+    by false e =
+        let m = ltb-false (64 * i) (length xs) e in
+        let p = each_adds sums xs i h low in
+        let q = sum_all xs (64 * i) m in
+        let r = sum_all xs (64 * (i + 1)) (omega (arith, m)) in
+        absurd (omega (arith, p, q, r, some))
+
+-- what is left behind the last of them
+pub spent : (xs : List ℕ) (n rest place : ℕ) → length xs ≤ n → sum (take n xs) + rest ≡ place → sum xs ≤ place
+spent xs n rest place past was = let p = sum_all xs n past in omega (arith, p, was)
+
 -- what is left behind one block more
-pub rest_next : (sums xs : List ℕ) (i rest x place : ℕ) → AreSums sums xs → i < length sums → x ≡ get_or sums i x → x ≤ rest → sum (take (64 * i) xs) + rest ≡ place → sum (take (64 * (i + 1)) xs) + (rest - x) ≡ place
-rest_next sums xs i rest x place h low is le was = let p = h.each i low in let q = is ∙ count_is sums i x low in omega (arith, p, q, le, was)
+pub rest_next : (sums xs : List ℕ) (i rest place : ℕ) → AreSums sums xs → i < length sums → count_at sums i ≤ rest → sum (take (64 * i) xs) + rest ≡ place → sum (take (64 * (i + 1)) xs) + (rest - count_at sums i) ≡ place
+rest_next sums xs i rest place h low le was = let p = each_adds sums xs i h low in omega (arith, p, le, was)

@@ -6,7 +6,7 @@ use Rattle.std.specs.Hash.FoldHasher.{initial, write, finish}
 use Rattle.js_data.specs.Data.{PlainData, null, truth, whole, text, list, fields, DataList, no_data, item, DataFields, no_fields, field}
 use Rattle.js_data.specs.Event.{PlainEvent}
 
--- all leaves
+-- all leaves but null, in order
 abbrev mutual
   pub data_writes : PlainData → List (List ℕ)
   data_writes null = []
@@ -24,6 +24,7 @@ abbrev mutual
   data_fields_writes no_fields = []
   data_fields_writes (field k d fs) = data_writes d ++ data_fields_writes fs
 
+-- those of the data of an event, if it has some
 abbrev pub extra_writes : Option PlainData → List (List ℕ)
 extra_writes None = []
 extra_writes (Some d) = data_writes d

@@ -42,7 +42,8 @@ impl<'a> Hash for Key<'a> {
     }
 }
 
-/// A hash of the event.
+/// A hash of the event: of its name, and of all leaves of its data but null, at any depth. Equal
+/// events have equal hashes; others may have, too.
 pub fn hash_of(event: &Event) -> u64
     ensures { result ≡ event_key event.now }
 {

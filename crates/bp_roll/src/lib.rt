@@ -1,6 +1,6 @@
 //! Which numbers are noted at which keys, for finding those that may care for a key without a look
-//! at all others, and which numbers have changed since they were noted; counts by number; and events
-//! as keys.
+//! at all others, and which numbers have changed since they were noted; counts by number; events as
+//! keys.
 #![tactic(auto)]
 
 mod changes;

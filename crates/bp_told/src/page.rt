@@ -62,7 +62,7 @@ impl Page {
         }
     }
 
-    /// A page with the head of a log of the second version.
+    /// A page with the head of a log of the second version. Its only error is out of memory.
     pub fn headed(alloc: Global, header: &Header) -> Result<Page, Memory>
         ensures { IfOk result (λ page. page ≡ header_text Second header.now) }
     {
