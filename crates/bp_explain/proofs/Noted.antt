@@ -5,7 +5,7 @@ use Rattle.std.proofs.lemmas.List.{drop_all}
 use Rattle.js_data.specs.Event.{PlainEvent}
 use Rattle.js_data.proofs.Shared.{drop_is}
 use Rattle.bp_run.specs.Selecting.{candidates, distinct}
-use Rattle.bp_select.proofs.Gathered.{gathered}
+use Rattle.bp_live.proofs.Gathered.{gathered}
 use Rattle.bp_explain.specs.declared.stops.Stop.{Stop}
 use Rattle.bp_explain.specs.Stops.{live_of}
 use Rattle.bp_explain.specs.inner.Lists.{with_new, with_all}

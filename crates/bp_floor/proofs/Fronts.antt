@@ -13,7 +13,7 @@ use Rattle.bp_run.specs.Bodies.Outcome.{Stopped, Ended, Broken, Violated, Spent}
 use Rattle.bp_run.specs.Selecting.{Live, Asked, by_number, both, blocked}
 use Rattle.bp_meaning.specs.Membership.{Membership, member}
 use Rattle.bp_thread.specs.Views.{stated_set}
-use Rattle.bp_select.specs.Benches.{placed, live_at}
+use Rattle.bp_live.specs.Placing.{placed, live_at}
 use Rattle.bp_floor.specs.inner.Seats.{PlainSeat, outcome_in, stop_at, statement_at, stated_from}
 use Rattle.bp_floor.specs.inner.Kept.{AreFrom}
 use Rattle.bp_floor.specs.inner.Desks.{PlainFront, IsRestated, IsBlocked, is_fault, is_yes, block_sets, no_block, block_at, block_stated, block_in, block_of_seat}

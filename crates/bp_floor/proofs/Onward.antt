@@ -23,7 +23,8 @@ use Rattle.bp_run.specs.Settling.{Entry, Pair, Ran, registered, merged, stopped,
 use Rattle.bp_run.specs.Settling.Entry.{Runs}
 use Rattle.bp_run.specs.Selecting.{Live}
 use Rattle.bp_run.proofs.Turns.{length-change}
-use Rattle.bp_select.specs.Benches.{PlainBench, placed}
+use Rattle.bp_live.specs.Placing.{placed}
+use Rattle.bp_select.specs.Benches.{PlainBench}
 use Rattle.bp_floor.specs.inner.Desks.{PlainDesk, Fits}
 use Rattle.bp_thread.specs.declared.job.Job.{Job}
 use Rattle.bp_thread.specs.Jobs.{PlainJob, plain_job, IsOf, IsFresh}

@@ -22,7 +22,7 @@ use Rattle.bp_run.specs.Story.{touch, touch_all, without, line_of_choice}
 use Rattle.bp_run.specs.Numbers.{number_in}
 use Rattle.bp_run.proofs.Turns.{length-change}
 use Rattle.bp_run.proofs.Numbers.{changed_elsewhere}
-use Rattle.bp_select.specs.Benches.{placed}
+use Rattle.bp_live.specs.Placing.{placed}
 use Rattle.bp_floor.specs.inner.Desks.{Fits}
 use Rattle.bp_thread.specs.declared.job.Job.{Job}
 use Rattle.bp_thread.specs.Jobs.{PlainJob, plain_job, IsOf, StandsFor, IsFresh, is_stopped}

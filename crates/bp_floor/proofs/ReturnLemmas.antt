@@ -18,7 +18,7 @@ use Rattle.bp_run.specs.Settling.Entry.{The_top, Runs, Stops}
 use Rattle.bp_run.specs.Numbers.{number_of}
 use Rattle.bp_run.proofs.Turns.{length-change}
 use Rattle.bp_meaning.specs.After.{effect_of, outcome_of}
-use Rattle.bp_select.specs.Benches.{placed, live_at}
+use Rattle.bp_live.specs.Placing.{placed, live_at}
 use Rattle.bp_thread.specs.declared.job.Job.{Job}
 use Rattle.bp_thread.specs.Jobs.{PlainJob, plain_job, is_ended, IsOf, StandsAt, StandsFor}
 use Rattle.bp_floor.specs.declared.board.Board.{Board}

@@ -12,7 +12,8 @@ use Rattle.bp_run.specs.Choosing.{choice}
 use Rattle.bp_meaning.specs.Membership.{member}
 use Rattle.bp_thread.specs.Views.{stated_set}
 use Rattle.bp_select.specs.Benches as bench
-use Rattle.bp_select.specs.Benches.{PlainBench, placed}
+use Rattle.bp_live.specs.Placing.{placed}
+use Rattle.bp_select.specs.Benches.{PlainBench}
 use Rattle.bp_select.specs.declared.answers.Choice.{Choice}
 use Rattle.bp_select.specs.declared.answers.Choice.TheVariants.{Internal, External, Nothing}
 use Rattle.bp_select.specs.Answers.{IsWithin, chosen_of}

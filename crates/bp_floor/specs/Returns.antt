@@ -9,7 +9,7 @@ use Rattle.bp_run.specs.Bodies.{Part, Statement}
 use Rattle.bp_run.specs.Configuration.{Stand, Thread, change}
 use Rattle.bp_run.specs.Settling.{Entry, Ran, Pair, part_of, body_of, merged}
 use Rattle.bp_run.specs.Settling.Entry.{The_top, Runs, Stops}
-use Rattle.bp_select.specs.Benches.{placed, live_at}
+use Rattle.bp_live.specs.Placing.{placed, live_at}
 use Rattle.bp_thread.specs.declared.job.Job.{Job}
 use Rattle.bp_thread.specs.Jobs.{plain_job, IsOf, StandsFor}
 use Rattle.bp_floor.specs.declared.board.Board.{Board}

@@ -9,7 +9,7 @@ ghost use Rattle.bp_run.specs.Choosing.{choice, reach};
 ghost use Rattle.bp_run.specs.Story.{without};
 ghost use Rattle.bp_thread.specs.Views.{plain_statement, stated_set};
 ghost use Rattle.bp_select.specs.declared.answers.Choice.TheVariants as choice_made;
-ghost use Rattle.bp_select.specs.Benches.{placed};
+ghost use Rattle.bp_live.specs.Placing.{placed};
 ghost use Rattle.bp_select.specs.Answers.{AnswersAs, AnswersReach, IsWithin, chosen_of, enabled_of};
 ghost use Rattle.bp_floor.specs.inner.Desks.{Fits, block_at, block_stated, shifted, enabled_behind, learned};
 

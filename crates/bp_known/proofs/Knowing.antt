@@ -178,11 +178,6 @@ module _ (base : Ground) (budget : ℕ) where
   told_more sets [] t h k = (k, tt)
   told_more sets (x ∷ xs) t h k = (h.0, told_more sets xs t h.1 k)
 
-  pub told_set : (sets : Sets) (ts : List Told) (i : ℕ) (t : Told) → AreKnown base budget sets ts → IsKnown base budget sets t.event t.known → AreKnown base budget sets (set ts i t)
-  told_set sets [] i t h k = tt
-  told_set sets (x ∷ xs) zero t h k = (k, h.1)
-  told_set sets (x ∷ xs) (suc i) t h k = (h.0, told_set sets xs i t h.1 k)
-
   pub told_by : (f g : Sets) (ts : List Told) → ((i : ℕ) → f i ≡ g i) → AreKnown base budget f ts → AreKnown base budget g ts
   told_by f g [] h k = tt
   told_by f g (t ∷ ts) h k = (known_by f g t.event t.known h k.0, told_by f g ts h k.1)
@@ -216,10 +211,3 @@ module _ (base : Ground) (budget : ℕ) where
       let is : x ≡ get_or seen i x = at ∙ ap (λ (us : List Told). get_or us i x) view in
       subst (λ (f : PlainEvent). IsKnown base budget sets f x.known) (ap (λ (t : Told). t.event) is ∙ same x)
       (subst (λ (t : Told). IsKnown base budget sets t.event t.known) (sym is) (told_at sets seen i x h low))
-
-  pub noted_here : (sets : Sets) (seen ts : List Told) (i : ℕ) (x : Told) (e : PlainEvent) (k : Known) → ts ≡ seen → i < length seen → ((d : Told) → (get_or seen i d).event ≡ e) → x ≡ get_or ts i x →
-      IsKnown base budget sets e k → AreKnown base budget sets seen → AreKnown base budget sets (set ts i (record { event = x.event; known = k }))
-  noted_here sets seen ts i x e k view low same at h told =
-      let is : x ≡ get_or seen i x = at ∙ ap (λ (us : List Told). get_or us i x) view in
-      told_set sets ts i (record { event = x.event; known = k }) (subst (λ (us : List Told). AreKnown base budget sets us) (sym view) told)
-      (subst (λ (f : PlainEvent). IsKnown base budget sets f k) (sym (same x) ∙ sym (ap (λ (t : Told). t.event) is)) h)

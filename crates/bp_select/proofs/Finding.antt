@@ -1,5 +1,5 @@
 -- Those alone are asked that an event may touch.
-use Rattle.std.proofs.Common.{◌≡◌, ◌⊎◌, inl, inr, ℕ, zero, suc, ◌+◌, ◌-◌, ◌<◌, ◌≤◌, arith, Bool, true, false, not, nat_eq, if◌then◌else◌, List, [], ◌∷◌, ◌++◌, length, map, take, drop, get_or, slice_index, refl, ap, sym, ◌∙◌, subst, append-nil, None, Ok, Err, Result, slice_get, Vec, IfOk}
+use Rattle.std.proofs.Common.{◌≡◌, ◌⊎◌, inl, inr, ℕ, zero, suc, ◌+◌, ◌-◌, ◌<◌, ◌≤◌, arith, Bool, true, false, not, nat_eq, if◌then◌else◌, List, [], ◌∷◌, ◌++◌, length, map, take, drop, get_or, slice_index, refl, ap, sym, ◌∙◌, subst, append-nil, None, Ok, Err, Result, Vec, IfOk}
 use Rattle.std.specs.declared.alloc.Global.{Global}
 use Rattle.std.specs.List.Sorted.{IsNonDecreasing}
 use Rattle.std.proofs.lemmas.Bool.{cases_lt, eq-eqb, eqb-true, or_cases}
@@ -12,7 +12,7 @@ use Rattle.bp_run.specs.Selecting.{Has, Live}
 use Rattle.bp_run.specs.Choosing.{touched, reach}
 use Rattle.bp_roll.specs.Rolls.{PlainRoll, is_in, is_noted, numbers_at}
 use Rattle.bp_roll.proofs.Listing.{in_more}
-use Rattle.bp_select.specs.declared.bench.Stated.{Stated}
+use Rattle.bp_live.specs.declared.stated.Stated.{Stated}
 use Rattle.bp_select.specs.declared.answers.SelectFault.{SelectFault}
 use Rattle.bp_select.specs.declared.answers.Reach.{Reach}
 use Rattle.bp_select.specs.inner.Touches.{AddsTouch}
@@ -20,12 +20,12 @@ use Rattle.bp_select.specs.Answers.{FaultAs}
 use Rattle.bp_roll.specs.Feeding.{event_key}
 use Rattle.bp_select.specs.Tallies.{Each}
 use Rattle.bp_select.specs.inner.Heeding.{IsNoted, Stays, any_key}
-use Rattle.bp_select.specs.inner.Lives.{live_of}
+use Rattle.bp_live.specs.Lives.{live_of}
 use Rattle.bp_select.specs.inner.Parts.{IsPart}
-use Rattle.bp_select.specs.inner.Numbers.{place_in, is_number}
-use Rattle.bp_select.specs.Places.{AreInOrder}
-use Rattle.bp_select.proofs.HeedLemmas.{each_at, in_push, in_pushed, number_at, place_own}
-use Rattle.bp_select.proofs.Leaving.{at_within}
+use Rattle.bp_live.specs.Numbers.{place_in}
+use Rattle.bp_live.specs.Places.{AreInOrder}
+use Rattle.bp_select.proofs.HeedLemmas.{each_at, in_push, in_pushed}
+use Rattle.bp_live.proofs.Numbered.{place_own}
 use Rattle.bp_select.proofs.PartLemmas.{part_push, part_skip}
 use Rattle.bp_select.proofs.TouchLemmas.{Reaches, reaches_step, reaches_fault}
 
@@ -46,12 +46,6 @@ places_step live numbers j number at old new order low is place q h i d within w
     by (inr e) =
         let here : at ≡ i = place ∙ ap (λ (n : ℕ). place_in n (map live_of live)) (is ∙ sym e) ∙ place_own live i d order within in
         ap (λ (xs : List ℕ). is_in i xs) q ∙ subst (λ (k : ℕ). is_in i (old ++ k ∷ []) ≡ true) (sym here) (in_push i old)
-
-pub guessed : (number guess : ℕ) (live : List Stated) → AreInOrder (map live_of live) → is_number number (slice_get (map live_of live) guess) ≡ true → guess ≡ place_in number (map live_of live)
-guessed number guess live order is =
-    let low = at_within number guess live is in
-    let x = some_at live guess low in
-    sym (place_own live guess x.0 order low) ∙ ap (λ (n : ℕ). place_in n (map live_of live)) (number_at number guess live x.0 is)
 
 -- whoever is not among the places that were found stays
 pub found_all : (live : List Stated) (r : PlainRoll) (e : PlainEvent) (some more all : List ℕ) → Each (λ t. IsNoted r t) (map live_of live) →

@@ -1,7 +1,7 @@
 -- Who is noted at which keys.
 use Rattle.std.proofs.Common.{◌≡◌, ◌⊎◌, inl, inr, ℕ, zero, suc, ◌+◌, ◌<◌, ◌≤◌, arith, Bool, true, false, not, ◌||◌, nat_eq, nat_lt, List, [], ◌∷◌, ◌++◌, length, map, take, drop, get_or, slice_index, refl, ap, sym, ◌∙◌, subst, Option, Some, None, Result, Ok, Err, OnOk, OnErr, if◌then◌else◌, slice_get}
 use Rattle.std.specs.List.{cons_option, list_any}
-use Rattle.std.proofs.lemmas.Bool.{eq-eqb, eqb-true, ne_eqb, lt-ltb, le-ltb, ltb-true, or_left, or_right}
+use Rattle.std.proofs.lemmas.Bool.{eq-eqb, eqb-true, ne_eqb, ltb-true, or_left, or_right}
 use Rattle.std.proofs.lemmas.List.{drop_all, drop_more, take_all, take_more, take-append-drop, map_push}
 use Rattle.std.proofs.lemmas.List.Folds.{list_any-append, list_any_at}
 use Rattle.js_data.specs.Event.{PlainEvent, same_event}
@@ -17,19 +17,20 @@ use Rattle.bp_run.specs.Choosing.{Touched, moves_if, touched}
 use Rattle.bp_run.specs.Choosing.Touched.{Moves, Interrupts}
 use Rattle.bp_roll.specs.Rolls.{PlainRoll, is_in, is_noted}
 use Rattle.bp_known.specs.Known.{Sets}
-use Rattle.bp_select.specs.declared.bench.Stated.{Stated}
+use Rattle.bp_live.specs.declared.stated.Stated.{Stated}
 use Rattle.bp_select.specs.declared.heeds.Heeds as heeds
 use Rattle.bp_select.specs.inner.BlockSets.{AreOfUnchanged}
-use Rattle.bp_select.specs.Benches.{live_at, placed}
+use Rattle.bp_live.specs.Placing.{live_at, placed}
 use Rattle.bp_roll.specs.Feeding.{event_key}
 use Rattle.bp_select.specs.inner.Heeding.{AreKept, AreNoted, HaveKeysOf, HeedsAt, IsNoted, Stays, TouchedAt, WhereWhole, any_key, asks_key, blocks_key}
 use Rattle.bp_select.specs.Tallies.{Each}
-use Rattle.bp_select.specs.inner.Lives.{live_of}
+use Rattle.bp_live.specs.Lives.{live_of}
 use Rattle.bp_select.specs.inner.Parts.{asks_nothing, blocks_nothing}
-use Rattle.bp_select.specs.inner.Numbers.{place_in, is_number}
-use Rattle.bp_select.specs.Places.{AreAbove, AreInOrder}
+use Rattle.bp_live.specs.Numbers.{place_in, is_number}
+use Rattle.bp_live.specs.Places.{AreAbove, AreInOrder}
 use Rattle.bp_select.proofs.Noting.{noted_placed, noted_more}
-use Rattle.bp_select.proofs.Putting.{above, place_of_one}
+use Rattle.bp_live.proofs.Numbered.{number_at}
+use Rattle.bp_live.proofs.Putting.{above, above_get, place_of_one}
 
 -- ---- each of some
 
@@ -264,36 +265,19 @@ absent_each n (y ∷ xs) k a e f = by (nat_lt (live_of y).number n) refl k (e �
         ((λ q. omega (arith, m, q)), none_of_above n (map live_of xs) (above_more n y.number (map live_of xs) (omega (arith, m)) a.0))
     by false h (suc j) e f ih = absurd (omega (arith, e))
 
-above_at : (a : ℕ) (xs : List Stated) (k : ℕ) (d : Stated) → AreAbove a (map live_of xs) → k < length xs → a < (get_or xs k d).number
-above_at a [] k d h low = absurd (omega (arith, low))
-above_at a (x ∷ xs) zero d h low = h.0
-above_at a (x ∷ xs) (suc k) d h low = above_at a xs k d h.1 (omega (arith, low))
-
 found_one : (xs : List Stated) (k : ℕ) (d : Stated) → AreInOrder (map live_of xs) → k < length xs → Each (λ t. t.number ≡ (get_or xs k d).number → t ≡ live_of (get_or xs k d)) (map live_of xs)
 found_one [] k d a low = absurd (omega (arith, low))
 found_one (x ∷ xs) zero d a low =
     ((λ e. refl), each_map (λ t. t.number ≡ x.number → ⊥) (λ t. t.number ≡ x.number → t ≡ live_of x) (map live_of xs) (λ t f e. absurd (f e)) (none_of_above x.number (map live_of xs) a.0))
 found_one (x ∷ xs) (suc k) d a low =
-    let m = above_at x.number xs k d a.0 (omega (arith, low)) in
+    let m = above_get x.number xs k d a.0 (omega (arith, low)) in
     ((λ e. absurd (let q : x.number ≡ (get_or xs k d).number = e in omega (arith, m, q))), found_one xs k d a.1 (omega (arith, low)))
-
-pub number_at : (n k : ℕ) (xs : List Stated) (d : Stated) → is_number n (slice_get (map live_of xs) k) ≡ true → (get_or xs k d).number ≡ n
-number_at n k [] d h = absurd (cc)
-number_at n zero (x ∷ xs) d h = eqb-true x.number n h
-number_at n (suc k) (x ∷ xs) d h = number_at n k xs d h
 
 pub found_each : (P : Live PlainSet → Type 0) (n k : ℕ) (xs : List Stated) (d : Stated) → AreInOrder (map live_of xs) → k < length xs → is_number n (slice_get (map live_of xs) k) ≡ true → P (live_of (get_or xs k d)) →
     Each (λ t. t.number ≡ n → P t) (map live_of xs)
 found_each P n k xs d a low is own =
     let m = number_at n k xs d is in
     each_map (λ t. t.number ≡ (get_or xs k d).number → t ≡ live_of (get_or xs k d)) (λ t. t.number ≡ n → P t) (map live_of xs) (λ t f e. subst P (sym (f (e ∙ sym m))) own) (found_one xs k d a low)
-
-pub place_own : (xs : List Stated) (i : ℕ) (d : Stated) → AreInOrder (map live_of xs) → i < length xs → place_in (get_or xs i d).number (map live_of xs) ≡ i
-place_own [] i d a low = absurd (omega (arith, low))
-place_own (x ∷ xs) zero d a low = place_of_one x.number x xs false (le-ltb x.number (live_of x).number (omega arith))
-place_own (x ∷ xs) (suc i) d a low =
-    let m = above_at x.number xs i d a.0 (omega (arith, low)) in
-    place_of_one (get_or xs i d).number x xs true (lt-ltb x.number (get_or xs i d).number m) ∙ ap suc (place_own xs i d a.1 (omega (arith, low)))
 
 -- ---- b-threads are noted
 

@@ -1,14 +1,7 @@
 pub mod Questions
 pub mod BlockLemmas
-pub mod Gathered
-pub mod Remains
-pub mod TopLemmas
-pub mod Entered
-pub mod Firsts
 pub mod TouchLemmas
 pub mod Selects
-pub mod Putting
-pub mod Leaving
 pub mod Telling
 pub mod Noting
 pub mod HeedLemmas

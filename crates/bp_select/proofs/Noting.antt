@@ -8,16 +8,17 @@ use Rattle.std.proofs.lemmas.List.Elements.{Contains-get_or, Contains-push, Cont
 use Rattle.js_value.specs.Value.{PlainSet}
 use Rattle.bp_run.specs.Bodies.{Statement}
 use Rattle.bp_run.specs.Selecting.{Live}
-use Rattle.bp_select.specs.declared.bench.Stated.{Stated}
-use Rattle.bp_select.specs.Benches.{live_at, placed}
+use Rattle.bp_live.specs.declared.stated.Stated.{Stated}
+use Rattle.bp_live.specs.Placing.{live_at, placed}
 use Rattle.bp_select.specs.Blocks.{AreOf, block_at, own_set}
 use Rattle.bp_select.specs.inner.BlockSets.{AreOfUnchanged}
 use Rattle.bp_known.specs.Known.{Sets, restated, sets_in}
-use Rattle.bp_select.specs.inner.Lives.{live_of}
-use Rattle.bp_select.specs.inner.Numbers.{place_in, is_number}
-use Rattle.bp_select.specs.Places.{AreAbove, AreInOrder}
+use Rattle.bp_live.specs.Lives.{live_of}
+use Rattle.bp_live.specs.Numbers.{place_in, is_number}
+use Rattle.bp_live.specs.Places.{AreAbove, AreInOrder}
 use Rattle.bp_known.proofs.Knowing.{restated_apart, restated_here}
-use Rattle.bp_select.proofs.Putting.{above, above_trans, place_of_one}
+use Rattle.bp_live.proofs.Numbered.{number_at}
+use Rattle.bp_live.proofs.Putting.{above, above_trans, place_of_one}
 use Rattle.bp_select.proofs.Telling.{above_block, block_apart, block_index}
 
 -- ---- one is placed
@@ -83,11 +84,6 @@ absent_block n (y ∷ xs) k a e f = by (nat_lt (live_of y).number n) refl k (e �
         let m = above (live_of y).number n h f in
         block_apart (live_of y) (map live_of xs) n (λ q. omega (arith, m, q)) ∙ none_above n (map live_of xs) (above_trans n y.number (map live_of xs) m a.0)
     by false h (suc j) e f ih = absurd (omega (arith, e))
-
-number_at : (n k : ℕ) (xs : List Stated) (d : Stated) → is_number n (slice_get (map live_of xs) k) ≡ true → (get_or xs k d).number ≡ n
-number_at n k [] d h = absurd (cc)
-number_at n zero (x ∷ xs) d h = eqb-true x.number n h
-number_at n (suc k) (x ∷ xs) d h = number_at n k xs d h
 
 pub found_block : (n k : ℕ) (xs : List Stated) (d : Stated) → AreInOrder (map live_of xs) → k < length xs → is_number n (slice_get (map live_of xs) k) ≡ true → block_at (map live_of xs) n ≡ own_set (live_of (get_or xs k d))
 found_block n k xs d o low is = ap (λ (m : ℕ). block_at (map live_of xs) m) (sym (number_at n k xs d is)) ∙ block_index live_of xs k d o low

@@ -15,8 +15,8 @@ use Rattle.bp_run.specs.Choosing.{at_most, chosen, drawn_of, greater, is_first_o
 use Rattle.bp_known.specs.Known.{Sets}
 use Rattle.bp_select.specs.Blocks.{AreOf, block_at, own_set}
 use Rattle.bp_select.specs.inner.Parts.{IsPart, are_none, asks_nothing, blocks_nothing}
-use Rattle.bp_select.specs.Places.{AreAbove, AreInOrder}
-use Rattle.bp_select.specs.inner.Tops.{Top, HaveTops, with_live, with_requests}
+use Rattle.bp_live.specs.Places.{AreAbove, AreInOrder}
+use Rattle.bp_live.specs.Tops.{Top, HaveTops, with_live, with_requests}
 use Rattle.bp_select.proofs.BlockLemmas.{nothing_in}
 use Rattle.bp_select.proofs.Noting.{none_above}
 

@@ -8,10 +8,10 @@ use Rattle.js_value.specs.Value.{PlainSet}
 use Rattle.bp_sets.specs.declared.fault.SetFault.TheVariants as set_fault
 use Rattle.bp_run.specs.Bodies as run
 use Rattle.bp_run.specs.Selecting.{Live, Has, Asked, by_number, both, blocked, unblocked, blocker}
-use Rattle.bp_select.specs.declared.bench.Stated.{Stated}
+use Rattle.bp_live.specs.declared.stated.Stated.{Stated}
 use Rattle.bp_select.specs.declared.answers.SelectFault.{SelectFault}
 use Rattle.bp_select.specs.declared.answers.SelectFault.TheVariants.{Set, Memory}
-use Rattle.bp_select.specs.inner.Lives.{live_of}
+use Rattle.bp_live.specs.Lives.{live_of}
 use Rattle.bp_select.specs.Answers.{FaultAs}
 
 -- ---- lists

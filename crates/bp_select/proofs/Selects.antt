@@ -14,14 +14,14 @@ use Rattle.bp_select.specs.declared.answers.Choice as answer
 use Rattle.bp_select.specs.declared.answers.Choice.TheVariants as answers
 use Rattle.bp_select.specs.Answers.{FaultAs, IsWithin}
 use Rattle.bp_select.specs.inner.Eligible.{IsFrom}
-use Rattle.bp_select.specs.inner.Tops.{Top, events_of, with_live, HaveTops}
+use Rattle.bp_live.specs.Tops.{Top, events_of, with_live, HaveTops}
 use Rattle.js_meaning.specs.State.{Ground}
 use Rattle.bp_meaning.specs.Membership.{member}
 use Rattle.bp_select.specs.inner.Parts.{IsPart, blocks_nothing}
 use Rattle.bp_select.proofs.PartLemmas.{unblocked_part, first_part}
 use Rattle.bp_run.proofs.Chosen.{first_is}
 use Rattle.bp_select.proofs.Questions.{fault_on}
-use Rattle.bp_select.proofs.TopLemmas.{events_at, tops_events, tops_have}
+use Rattle.bp_live.proofs.TopLemmas.{events_at, tops_events, tops_have}
 
 -- ---- candidates
 

@@ -21,19 +21,19 @@ use Rattle.bp_roll.specs.Rolls.{is_in}
 use Rattle.bp_known.specs.Known.{Sets, sets_in}
 use Rattle.bp_select.specs.declared.answers.Choice as answer
 use Rattle.bp_select.specs.declared.answers.Choice.TheVariants as answers
-use Rattle.bp_select.specs.declared.bench.Stated.{Stated}
+use Rattle.bp_live.specs.declared.stated.Stated.{Stated}
 use Rattle.bp_select.specs.Answers.{IsWithin, chosen_of}
-use Rattle.bp_select.specs.Benches.{live_at, placed}
+use Rattle.bp_live.specs.Placing.{live_at, placed}
 use Rattle.bp_select.specs.Blocks.{AreOf}
-use Rattle.bp_select.specs.inner.Candidates.{events_in}
-use Rattle.bp_select.specs.declared.candidate.Candidate.{Candidate}
+use Rattle.bp_live.specs.Candidates.{events_in}
+use Rattle.bp_live.specs.declared.candidate.Candidate.{Candidate}
 use Rattle.bp_roll.specs.Counting.{count_at}
 use Rattle.bp_select.specs.Tallies.{Each, AreApart, AreFreeOf, AreTallied, HasFree, PlainTally, Tallied, Unless, is_there}
 use Rattle.bp_select.specs.inner.Heeding.{Stays}
 use Rattle.bp_roll.specs.Keys.{same_sym}
-use Rattle.bp_select.specs.inner.Lives.{live_of}
-use Rattle.bp_select.specs.Places.{AreAbove, AreInOrder}
-use Rattle.bp_select.specs.inner.Numbers.{is_number}
+use Rattle.bp_live.specs.Lives.{live_of}
+use Rattle.bp_live.specs.Places.{AreAbove, AreInOrder}
+use Rattle.bp_live.specs.Numbers.{is_number}
 use Rattle.bp_select.specs.inner.Counted.{IsAlone, IsCounted, all_free, chosen_as, or_none}
 use Rattle.bp_select.proofs.HeedLemmas.{each_both, each_map, each_placed, found_each, in_dropped}
 use Rattle.bp_select.proofs.Selects.{choice_of}

@@ -11,7 +11,7 @@ use Rattle.bp_select.specs.EmptySets.{is_empty}
 use Rattle.bp_select.specs.Blocks.{AreOf, own_set, block_at}
 use Rattle.bp_select.specs.inner.BlockSets.{first_by, known_of}
 use Rattle.bp_known.specs.Known.{Sets, IsFree, IsBlockedBy, IsKnown}
-use Rattle.bp_select.specs.Places.{AreAbove, AreInOrder}
+use Rattle.bp_live.specs.Places.{AreAbove, AreInOrder}
 use Rattle.bp_select.proofs.BlockLemmas.{nothing_in}
 
 none_some : {A : Type 0} {a : A} → None ≡ Some a → ⊥

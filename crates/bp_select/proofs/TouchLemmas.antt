@@ -10,10 +10,10 @@ use Rattle.js_value.specs.Value.{PlainSet}
 use Rattle.bp_run.specs.Bodies as run
 use Rattle.bp_run.specs.Selecting.{Has, Asked, both}
 use Rattle.bp_run.specs.Choosing.{Touched, touched, reach}
-use Rattle.bp_select.specs.declared.bench.Stated.{Stated}
+use Rattle.bp_live.specs.declared.stated.Stated.{Stated}
 use Rattle.bp_select.specs.declared.answers.SelectFault.{SelectFault}
 use Rattle.bp_select.specs.declared.answers.Reach.{Reach}
-use Rattle.bp_select.specs.inner.Lives.{live_of}
+use Rattle.bp_live.specs.Lives.{live_of}
 use Rattle.bp_select.specs.Answers.{FaultAs, move_of, interrupt_of, IsReach}
 use Rattle.bp_select.proofs.Questions.{fault_on}
 

@@ -1,5 +1,4 @@
 pub mod Answers
-pub mod Places
 pub mod EmptySets
 pub mod Blocks
 pub mod Tallies

@@ -10,7 +10,7 @@ use Rattle.bp_roll.specs.Rolls.{is_in}
 use Rattle.bp_roll.specs.Counting.{count_at}
 use Rattle.bp_known.specs.Known.{Sets}
 use Rattle.bp_select.specs.Blocks.{AreOf}
-use Rattle.bp_select.specs.Places.{AreInOrder}
+use Rattle.bp_live.specs.Places.{AreInOrder}
 
 -- how many free events by number, and whether all are counted but those of some numbers
 pub record PlainTally : Type 0 where

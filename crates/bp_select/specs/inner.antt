@@ -1,9 +1,4 @@
 -- What the contracts inside of this crate cite, and nothing that a user of a bench is promised by.
-pub mod Lives
-pub mod Lists
-pub mod Numbers
-pub mod Tops
-pub mod Candidates
 pub mod Parts
 pub mod BlockSets
 pub mod Heeding

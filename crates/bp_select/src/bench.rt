@@ -3,40 +3,29 @@ ghost use Rattle.std.specs.Prelude.{◌≡◌, ◌<◌, ◌≤◌, ◌+◌, ◌^
 ghost use Rattle.js_meaning.specs.State.{Ground as Base};
 ghost use Rattle.js_frames.specs.Places.{plain_ground};
 ghost use Rattle.bp_draw.specs.Words.{draw_word};
-ghost use Rattle.bp_run.specs.Selecting.{selectable, blocker, requests, requested};
+ghost use Rattle.bp_run.specs.Selecting.{selectable, blocker, requested};
 ghost use Rattle.bp_run.specs.Choosing.{choice, reach};
 ghost use Rattle.bp_meaning.specs.Membership.{member};
 ghost use Rattle.bp_thread.specs.Views.{plain_statement};
-ghost use Rattle.bp_select.specs.Benches.{empty_bench, Fits, placed};
-ghost use Rattle.bp_select.specs.inner.Lives.{live_of};
+ghost use Rattle.bp_live.specs.Placing.{placed};
+ghost use Rattle.bp_select.specs.Benches.{empty_bench, Fits};
 ghost use Rattle.bp_select.specs.Answers.{AnswersAs, AnswersReach, IsWithin, chosen_of, enabled_of};
 
 use crate::asking::blocker;
 use crate::block_sets::Blocks;
 use crate::heeds::Heeds;
-use crate::placing::StatedList;
 use crate::selecting::{choose, enabled};
 use crate::settling::settle;
 use crate::tally::Tally;
 use crate::{Choice, Enabled, Reach, SelectFault};
 use bp_draw::Draw;
+use bp_live::StatedList;
 use bp_log::{Memory, Strategy};
 use bp_thread::Statement;
 use js_data::Event;
 use js_frames::Ground;
 use std::alloc::Global;
 use std::marker::Model;
-
-/// What a b-thread stated last, also where it is live no more.
-#[derive(Drop)]
-pub(crate) struct Stated {
-    /// Its number.
-    pub number: u32,
-    /// What it states at its synchronisation point.
-    pub statement: Statement,
-    /// Whether it is live.
-    pub here: bool,
-}
 
 /// What the live b-threads state, by their numbers. Contracts see the list of statements, the block
 /// sets that are noted, what is known of events under these, and how many free events each b-thread
@@ -250,16 +239,4 @@ impl Bench {
     {
         self.live.requested(event)
     }
-}
-
-/// Whether the b-thread requests the event.
-pub(crate) fn requests(event: &Event, stated: &Stated) -> bool
-    ensures { result ≡ requests event.now (live_of stated.now) }
-{
-    stated
-        .statement
-        .request
-        .as_slice()
-        .iter()
-        .any(|e| event.same(e))
 }

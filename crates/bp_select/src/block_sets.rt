@@ -9,17 +9,16 @@ ghost use Rattle.bp_select.specs.Answers.{AnswersAs};
 ghost use Rattle.bp_known.specs.declared.known.Told.{Told};
 ghost use Rattle.bp_select.specs.Blocks.{AreOf};
 ghost use Rattle.bp_select.specs.inner.BlockSets.{known_of};
-ghost use Rattle.bp_select.specs.inner.Candidates.{events_in, tops_of};
+ghost use Rattle.bp_live.specs.Candidates.{events_in, tops_of};
 ghost use Rattle.bp_known.specs.Known.{Sets, AreKnown, IsKnown, restated, sets_in};
-ghost use Rattle.bp_select.specs.inner.Lives.{lent};
-ghost use Rattle.bp_select.specs.Places.{AreInOrder};
-ghost use Rattle.bp_select.specs.inner.Tops.{HaveTops};
+ghost use Rattle.bp_live.specs.Lives.{lent};
+ghost use Rattle.bp_live.specs.Places.{AreInOrder};
+ghost use Rattle.bp_live.specs.Tops.{HaveTops};
 
 use crate::SelectFault;
 use crate::asking::blocked_by;
-use crate::bench::Stated;
-use crate::candidate::{Candidate, keep_if};
 use bp_known::{Known, Told, renew};
+use bp_live::{Candidate, Stated, keep_if};
 use bp_log::Memory;
 use bp_roll::hash_of;
 use indexmap::IndexMap;
@@ -185,12 +184,13 @@ impl Blocks {
         Ok(())
     }
 
-    /// Where the event is told of, if that is found.
-    fn place_of(&self, event: &Event) -> Option<usize>
+    /// Where the event, whose hash this is, is told of, if that is found. Only whether it is found
+    /// rests on the hash.
+    fn place_of(&self, event: &Event, hash: u64) -> Option<usize>
         ensures { IfSome result (λ i. (i < length self.now.told)
             × ((d : Told) → (get_or self.now.told i d).event ≡ event.now)) }
     {
-        let at = *self.places.get(&hash_of(event))?;
+        let at = *self.places.get(&hash)?;
         let told = self.told.get(at)?;
         if told.event.same(event) {
             return Some(at);
@@ -198,12 +198,12 @@ impl Blocks {
         None
     }
 
-    /// What is known of the event.
-    fn known(&self, event: &Event) -> Known
+    /// What is known of the event, whose hash this is.
+    fn known(&self, event: &Event, hash: u64) -> Known
         ensures { (base : Base) (budget : ℕ) (sets : Sets) →
             AreKnown base budget sets self.now.told → IsKnown base budget sets event.now result }
     {
-        match self.place_of(event) {
+        match self.place_of(event, hash) {
             None => Known::Unknown,
             Some(at) => self.told[at].known,
         }
@@ -216,7 +216,7 @@ impl Blocks {
             (ts : List (Live PlainSet)) → AreInOrder ts → AreOf ts sets →
             IfSome result (λ b. blocked (member base budget) ts event.now ≡ Ok b) }
     {
-        match self.known(event) {
+        match self.known(event, hash_of(event)) {
             Known::Unknown => None,
             Known::Blocked(_) => Some(true),
             Known::Free => Some(false),
@@ -247,20 +247,16 @@ impl Blocks {
         Ok(Some(free))
     }
 
-    /// This is known of the event from now on, unless memory runs out.
-    fn note(&mut self, event: &Event, known: Known)
+    /// This is known from now on of the event, whose hash this is and of which `known` found nothing,
+    /// unless memory runs out.
+    fn note(&mut self, event: &Event, hash: u64, known: Known)
         ensures sets { self.new.sets ≡ self.old.sets }
         ensures known { (base : Base) (budget : ℕ) (sets : Sets) →
             IsKnown base budget sets event.now known → AreKnown base budget sets self.old.told →
             AreKnown base budget sets self.new.told }
     {
-        if let Some(at) = self.place_of(event) {
-            self.told[at].known = known;
-            return;
-        }
         let at = self.told.len();
         if let Ok(event) = event.copy() {
-            let hash = hash_of(&event);
             if self.told.push(Told { event, known }).is_ok() {
                 let _noted = self.places.insert(hash, at);
             }
@@ -286,12 +282,13 @@ impl Blocks {
         ensures known { AreKnown (plain_ground ground.now) budget (sets_in self.old.sets)
             self.new.told }
     {
-        match self.known(event) {
+        let hash = hash_of(event);
+        match self.known(event, hash) {
             Known::Free => Ok(false),
             Known::Blocked(_) => Ok(true),
             Known::Unknown => {
                 let by = blocked_by(alloc, ground, budget, blocking, event)?;
-                self.note(event, known_by(by));
+                self.note(event, hash, known_by(by));
                 Ok(by.is_some())
             }
         }

@@ -9,10 +9,10 @@ ghost use Rattle.bp_thread.specs.Views.{stated_set};
 ghost use Rattle.bp_roll.specs.Rolls.{is_in};
 ghost use Rattle.bp_roll.specs.Feeding.{event_key};
 ghost use Rattle.bp_select.specs.inner.Heeding.{HaveKeysOf, HeedsAt, TouchedAt};
-ghost use Rattle.bp_select.specs.inner.Lives.{live_of};
+ghost use Rattle.bp_live.specs.Lives.{live_of};
 
-use crate::bench::Stated;
 use crate::picking::{asks, blocks};
+use bp_live::Stated;
 use bp_log::Memory;
 use bp_roll::hash_of;
 use js_data::Event;

@@ -4,13 +4,13 @@ ghost use Rattle.std.specs.List.Sorted.{IsNonDecreasing};
 ghost use Rattle.js_value.specs.Value.{PlainSet};
 ghost use Rattle.bp_run.specs.Selecting.{Live};
 ghost use Rattle.bp_roll.specs.Rolls.{is_in};
-ghost use Rattle.bp_select.specs.declared.bench.Stated.{Stated};
-ghost use Rattle.bp_select.specs.inner.Lives.{live_of, lent};
+ghost use Rattle.bp_live.specs.declared.stated.Stated.{Stated};
+ghost use Rattle.bp_live.specs.Lives.{live_of, lent};
 ghost use Rattle.bp_select.specs.inner.Parts.{IsPart, asks_nothing, blocks_nothing};
 
 use crate::asking::is_empty;
-use crate::bench::Stated;
 use crate::reaching::is_between;
+use bp_live::Stated;
 use bp_log::Memory;
 use std::alloc::Global;
 

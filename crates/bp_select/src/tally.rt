@@ -13,23 +13,20 @@ ghost use Rattle.bp_known.specs.Known.{AreKnown, Sets, sets_in};
 ghost use Rattle.bp_roll.specs.Rolls.{is_in};
 ghost use Rattle.bp_roll.specs.Counting.{count_at};
 ghost use Rattle.bp_select.specs.declared.answers.Choice.TheVariants as Choice;
-ghost use Rattle.bp_select.specs.declared.bench.Stated.{Stated};
-ghost use Rattle.bp_select.specs.inner.Candidates.{events_in};
+ghost use Rattle.bp_live.specs.declared.stated.Stated.{Stated};
+ghost use Rattle.bp_live.specs.Candidates.{events_in};
 ghost use Rattle.bp_select.specs.Tallies.{Each, AreFreeOf, AreTallied, Tallied, no_tally};
 ghost use Rattle.bp_select.specs.inner.Counted.{plain_tally, IsAlone, IsCounted, all_free, chosen_as};
 ghost use Rattle.bp_select.specs.inner.Heeding.{IsNoted, WhereWhole};
-ghost use Rattle.bp_select.specs.inner.Lives.{live_of};
+ghost use Rattle.bp_live.specs.Lives.{live_of};
 ghost use Rattle.bp_select.specs.inner.Settled.{AreReady, AreSettled};
-ghost use Rattle.bp_select.specs.Places.{AreInOrder};
+ghost use Rattle.bp_live.specs.Places.{AreInOrder};
 
 use crate::Choice;
-use crate::bench::{Stated, requests};
 use crate::block_sets::Blocks;
-use crate::candidate::Candidate;
-use crate::candidates::candidates_of;
 use crate::heeds::{Heeds, blocking_at, numbers_of, places_of};
-use crate::placing::{is_at, place_of};
 use bp_draw::Draw;
+use bp_live::{Candidate, Stated, candidates_of, is_at, place_of, requests};
 use bp_log::{Memory, Strategy};
 use bp_roll::{Changes, Counts, Roll};
 use js_data::Event;
@@ -372,7 +369,9 @@ fn event_at(
     let Some(number) = number_of(spot.number) else {
         return Ok(None);
     };
-    event_of(alloc, ground, budget, live, roll, blocks, number, spot.rest)
+    event_of(
+        alloc, ground, budget, live, roll, blocks, number, spot.place,
+    )
 }
 
 /// An event that is chosen, and whether a word is drawn for it.

@@ -10,7 +10,7 @@ use Rattle.bp_log.specs.declared.options.Strategy.TheVariants.{Simple, Ordered, 
 use Rattle.bp_meaning.specs.Membership.{member}
 use Rattle.bp_run.specs.Selecting.{Live, Has, selectable}
 use Rattle.bp_run.specs.Choosing.{remaining, choice}
-use Rattle.bp_select.specs.Benches.{placed}
+use Rattle.bp_live.specs.Placing.{placed}
 
 abbrev a : PlainEvent
 a = named (codes "a")

@@ -6,8 +6,8 @@ use Rattle.bp_select.specs.declared.answers.Choice.{Choice}
 use Rattle.bp_select.specs.declared.answers.Choice.TheVariants as choice
 use Rattle.bp_select.specs.declared.selecting.Eligible.{Eligible}
 use Rattle.bp_select.specs.declared.selecting.Eligible.TheVariants.{Inner, Outer, Nothing}
-use Rattle.bp_select.specs.inner.Tops.{HaveTops}
-use Rattle.bp_select.specs.inner.Candidates.{events_in, tops_of}
+use Rattle.bp_live.specs.Tops.{HaveTops}
+use Rattle.bp_live.specs.Candidates.{events_in, tops_of}
 
 abbrev pub eligible_of : Eligible → Enabled
 eligible_of (Inner cs) = record { inner = events_in cs.items; outer = None }

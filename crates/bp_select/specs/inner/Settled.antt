@@ -6,7 +6,7 @@ use Rattle.bp_run.specs.Selecting.{Live}
 use Rattle.bp_known.specs.Known.{AreKnown, sets_in}
 use Rattle.bp_roll.specs.Rolls.{PlainRoll}
 use Rattle.bp_select.specs.Blocks.{AreOf}
-use Rattle.bp_select.specs.Places.{AreInOrder}
+use Rattle.bp_live.specs.Places.{AreInOrder}
 use Rattle.bp_select.specs.Tallies.{Each}
 use Rattle.bp_select.specs.inner.BlockSets.{PlainBlocks}
 use Rattle.bp_select.specs.inner.Heeding.{IsNoted}

@@ -1,7 +1,7 @@
 use Rattle.std.proofs.Common.{◌≡◌, ◌∙◌, ◌<◌, Bool, false, List, length, get_or, find, ap, sym, subst, Option, Some, None}
 use Rattle.std.specs.List.{list_any}
 use Rattle.js_data.specs.Event.{PlainEvent, same_event}
-use Rattle.bp_select.proofs.Firsts.{found_here, found_later}
+use Rattle.bp_live.proofs.Firsts.{found_here, found_later}
 use Rattle.bp_explain.specs.Stops.{live_of}
 use Rattle.bp_explain.proofs.leaving.is_first_of.Goals as goal
 

@@ -2,7 +2,7 @@ use Rattle.std.proofs.Common.{◌∙◌, Bool, Ok, map, ap, sym, is_some}
 use Rattle.std.proofs.lemmas.Result.{err_from_is_err_and}
 use Rattle.js_frames.specs.Places.{plain_ground}
 use Rattle.bp_meaning.specs.Membership.{member}
-use Rattle.bp_select.specs.inner.Lives.{lent}
+use Rattle.bp_live.specs.Lives.{lent}
 use Rattle.bp_select.proofs.Questions.{blocked_first, blocked_step, blocked_last, blocked_fault}
 use Rattle.bp_select.proofs.Telling.{first_by_some, has_it, known_told, nobody, witness_next}
 use Rattle.bp_select.proofs.asking.blocked_by.Goals as goal

@@ -3,7 +3,7 @@ use Rattle.js_frames.specs.Places.{plain_ground}
 use Rattle.bp_meaning.specs.Membership.{member}
 use Rattle.bp_run.specs.Selecting.{blocked}
 use Rattle.bp_sets.specs.Asked.{IsAbout}
-use Rattle.bp_select.specs.inner.Lives.{lent}
+use Rattle.bp_live.specs.Lives.{lent}
 use Rattle.bp_select.proofs.Questions.{seen}
 use Rattle.bp_select.proofs.Telling.{Has_it}
 use Rattle.bp_select.proofs.asking.blocked_by.Given as goal

@@ -1,7 +1,7 @@
 use Rattle.std.proofs.lemmas.Result.{err_from_is_err_and}
 use Rattle.bp_meaning.specs.Membership.{member}
 use Rattle.js_frames.specs.Places.{plain_ground}
-use Rattle.bp_select.specs.inner.Lives.{lent}
+use Rattle.bp_live.specs.Lives.{lent}
 use Rattle.bp_select.proofs.Questions.{blocked_first, blocked_step, blocked_last, blocked_fault}
 use Rattle.bp_select.proofs.asking.is_blocked.Goals as goal
 

@@ -2,21 +2,21 @@ use Rattle.std.proofs.Common.{map, not}
 use Rattle.std.proofs.lemmas.Result.{err_from_is_err_and}
 use Rattle.js_frames.specs.Places.{plain_ground}
 use Rattle.bp_meaning.specs.Membership.{member}
-use Rattle.bp_select.specs.inner.Lives.{lent}
-use Rattle.bp_select.specs.inner.Candidates.{event_of}
-use Rattle.bp_select.specs.declared.candidate.Candidate.{Candidate}
+use Rattle.bp_live.specs.Lives.{lent}
+use Rattle.bp_live.specs.Candidates.{event_of}
+use Rattle.bp_live.specs.declared.candidate.Candidate.{Candidate}
 use Rattle.bp_select.proofs.Questions.{unblocked_step, unblocked_last, unblocked_fault}
-use Rattle.bp_select.proofs.TopLemmas.{tops_step}
+use Rattle.bp_live.proofs.TopLemmas.{tops_step}
 use Rattle.bp_select.proofs.asking.unblocked.Goals as goal
 
 pub loop-candidate-preserved : goal.loop-candidate-preserved
 loop-candidate-preserved c = record {
   events =
       unblocked_step event_of (member (plain_ground c.args.ground.now) c.args.budget) (map lent c.args.blocking.now) c.args.candidates.now c.loop-candidate.candidate-index c.candidate-item.result c.loop-candidate.free.items c.keep_if.new.kept.items
-      c.in_ok-blocked.blocked c.loop-candidate-test.true c.candidate-item.is c.in_ok-blocked.ensures c.in_ok-keep_if.ensures c.loop-candidate.invariant.events;
+      c.in_ok-blocked.blocked c.loop-candidate-test.true c.candidate-item.is c.in_ok-blocked.ensures c.in_ok-keep_if.ensures.kept c.loop-candidate.invariant.events;
   tops = λ ts h.
       tops_step event_of (λ (x : Candidate). x.top) ts c.args.candidates.now c.loop-candidate.candidate-index c.candidate-item.result c.loop-candidate.free.items c.keep_if.new.kept.items
-      (not c.in_ok-blocked.blocked) c.loop-candidate-test.true c.candidate-item.is c.in_ok-keep_if.ensures h (c.loop-candidate.invariant.tops ts h);
+      (not c.in_ok-blocked.blocked) c.loop-candidate-test.true c.candidate-item.is c.in_ok-keep_if.ensures.kept h (c.loop-candidate.invariant.tops ts h);
 }
 
 pub returns-clause-events : goal.returns-clause-events

@@ -3,9 +3,9 @@ use Rattle.js_value.specs.Value.{PlainSet}
 use Rattle.js_frames.specs.Places.{plain_ground}
 use Rattle.bp_meaning.specs.Membership.{member}
 use Rattle.bp_run.specs.Selecting.{Live, unblocked}
-use Rattle.bp_select.specs.inner.Lives.{lent}
-use Rattle.bp_select.specs.inner.Tops.{HaveTops}
-use Rattle.bp_select.specs.inner.Candidates.{events_in, tops_of}
+use Rattle.bp_live.specs.Lives.{lent}
+use Rattle.bp_live.specs.Tops.{HaveTops}
+use Rattle.bp_live.specs.Candidates.{events_in, tops_of}
 use Rattle.bp_select.proofs.Questions.{behind}
 use Rattle.bp_select.proofs.asking.unblocked.Given as goal
 

@@ -1,6 +1,6 @@
 use Rattle.std.proofs.Common.{◌≡◌, ◌<◌, ℕ, true, get_or, length, take}
 use Rattle.bp_roll.specs.Rolls.{is_in}
-use Rattle.bp_select.specs.declared.bench.Stated.{Stated}
+use Rattle.bp_live.specs.declared.stated.Stated.{Stated}
 use Rattle.bp_select.proofs.heeds.add_places.Given as goal
 
 abbrev pub invariant-loop-number : goal.invariant-loop-number

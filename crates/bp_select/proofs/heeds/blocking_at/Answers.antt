@@ -1,9 +1,9 @@
 use Rattle.std.proofs.Common.{◌≡◌, ◌⊎◌, ◌<◌, ℕ, List, true, get_or, length, map, subst, sym}
 use Rattle.std.specs.List.Sorted.{IsNonDecreasing}
 use Rattle.bp_roll.specs.Rolls.{is_in, is_noted}
-use Rattle.bp_select.specs.declared.bench.Stated.{Stated}
+use Rattle.bp_live.specs.declared.stated.Stated.{Stated}
 use Rattle.bp_select.specs.inner.Heeding.{IsNoted, blocks_key}
-use Rattle.bp_select.specs.inner.Lives.{live_of}
+use Rattle.bp_live.specs.Lives.{live_of}
 use Rattle.bp_select.specs.inner.Parts.{blocks_nothing}
 use Rattle.bp_select.proofs.Finding.{found_at}
 use Rattle.bp_select.proofs.HeedLemmas.{each_map}

@@ -1,11 +1,11 @@
 use Rattle.std.proofs.Common.{◌≡◌, ◌∙◌, map, sym, subst}
 use Rattle.std.proofs.lemmas.Result.{IfOk-weaker}
 use Rattle.bp_roll.specs.Rolls.{is_in}
-use Rattle.bp_select.specs.declared.bench.Stated.{Stated}
+use Rattle.bp_live.specs.declared.stated.Stated.{Stated}
 use Rattle.bp_select.specs.inner.Heeding.{HeedsAt}
-use Rattle.bp_select.specs.inner.Lives.{live_of}
+use Rattle.bp_live.specs.Lives.{live_of}
 use Rattle.bp_select.proofs.HeedLemmas.{absent_each, each_map, found_each}
-use Rattle.bp_select.proofs.Leaving.{at_within}
+use Rattle.bp_live.proofs.Leaving.{at_within}
 use Rattle.bp_select.proofs.heeds.keys_at.Goals as goal
 
 pub returns-then-not-is_at : goal.returns-then-not-is_at

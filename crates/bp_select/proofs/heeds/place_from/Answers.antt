@@ -1,5 +1,5 @@
 use Rattle.std.proofs.Common.{◌∙◌, sym}
-use Rattle.bp_select.proofs.Finding.{guessed}
+use Rattle.bp_live.proofs.Numbered.{guessed}
 use Rattle.bp_select.proofs.heeds.place_from.Goals as goal
 
 pub returns-then-is_at : goal.returns-then-is_at

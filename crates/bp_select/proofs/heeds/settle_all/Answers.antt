@@ -1,5 +1,5 @@
 use Rattle.std.proofs.Common.{map, refl}
-use Rattle.bp_select.specs.inner.Lives.{live_of}
+use Rattle.bp_live.specs.Lives.{live_of}
 use Rattle.bp_select.proofs.HeedLemmas.{all_noted, notes_all, notes_fault, notes_step}
 use Rattle.bp_select.proofs.heeds.settle_all.Goals as goal
 

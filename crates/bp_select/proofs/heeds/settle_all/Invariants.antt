@@ -1,6 +1,6 @@
 use Rattle.std.proofs.Common.{map, drop}
 use Rattle.bp_select.specs.inner.Heeding.{AreNoted}
-use Rattle.bp_select.specs.inner.Lives.{live_of}
+use Rattle.bp_live.specs.Lives.{live_of}
 use Rattle.bp_select.proofs.heeds.settle_all.Given as goal
 
 abbrev pub invariant-loop-number : goal.invariant-loop-number

@@ -1,5 +1,5 @@
 use Rattle.std.proofs.Common.{map}
-use Rattle.bp_select.specs.inner.Lives.{live_of}
+use Rattle.bp_live.specs.Lives.{live_of}
 use Rattle.bp_select.proofs.HeedLemmas.{noted_when}
 use Rattle.bp_select.proofs.heeds.settle_one.Goals as goal
 

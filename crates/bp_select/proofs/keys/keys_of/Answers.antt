@@ -1,4 +1,4 @@
-use Rattle.bp_select.specs.inner.Lives.{live_of}
+use Rattle.bp_live.specs.Lives.{live_of}
 use Rattle.bp_select.proofs.HeedLemmas.{heeds_all}
 use Rattle.bp_select.proofs.keys.keys_of.Goals as goal
 

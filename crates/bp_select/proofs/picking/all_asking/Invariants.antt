@@ -1,5 +1,5 @@
 use Rattle.std.proofs.Common.{map, take}
-use Rattle.bp_select.specs.inner.Lives.{live_of, lent}
+use Rattle.bp_live.specs.Lives.{live_of, lent}
 use Rattle.bp_select.specs.inner.Parts.{IsPart, asks_nothing}
 use Rattle.bp_select.proofs.picking.all_asking.Given as goal
 

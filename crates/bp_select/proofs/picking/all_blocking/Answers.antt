@@ -1,5 +1,5 @@
 use Rattle.std.proofs.Common.{map}
-use Rattle.bp_select.specs.inner.Lives.{lent}
+use Rattle.bp_live.specs.Lives.{lent}
 use Rattle.bp_select.specs.inner.Parts.{blocks_nothing}
 use Rattle.bp_select.proofs.Finding.{part_all, part_step}
 use Rattle.bp_select.proofs.picking.all_blocking.Goals as goal

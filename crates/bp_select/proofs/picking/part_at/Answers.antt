@@ -2,8 +2,8 @@ use Rattle.std.proofs.Common.{◌≤◌, ◌+◌, ◌∙◌, ℕ, List, inl, ari
 use Rattle.std.specs.Borrow.{Bor}
 use Rattle.std.specs.declared.alloc.Global.{Global}
 use Rattle.std.proofs.lemmas.List.{map_push}
-use Rattle.bp_select.specs.declared.bench.Stated.{Stated}
-use Rattle.bp_select.specs.inner.Lives.{live_of, lent}
+use Rattle.bp_live.specs.declared.stated.Stated.{Stated}
+use Rattle.bp_live.specs.Lives.{live_of, lent}
 use Rattle.bp_select.specs.inner.Parts.{IsPart}
 use Rattle.bp_select.proofs.Finding.{ArePassed, part_last, part_next, passed_step}
 use Rattle.bp_select.proofs.picking.part_at.Goals as goal

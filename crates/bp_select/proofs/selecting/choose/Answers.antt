@@ -5,7 +5,7 @@ use Rattle.bp_draw.specs.Words.{draw_word}
 use Rattle.bp_meaning.specs.Membership.{member}
 use Rattle.bp_run.specs.Choosing.{choice}
 use Rattle.bp_select.specs.declared.tally.Picked.{Picked}
-use Rattle.bp_select.specs.inner.Lives.{live_of}
+use Rattle.bp_live.specs.Lives.{live_of}
 use Rattle.bp_select.specs.inner.Counted.{chosen_as}
 use Rattle.bp_select.proofs.TallyLemmas.{picked_as, picked_drawn, picked_some, picked_within}
 use Rattle.bp_select.proofs.selecting.choose.Goals as goal

@@ -5,8 +5,8 @@ use Rattle.js_frames.specs.Places.{plain_ground}
 use Rattle.bp_draw.specs.Words.{draw_word}
 use Rattle.bp_meaning.specs.Membership.{member}
 use Rattle.bp_run.specs.Choosing.{Choice}
-use Rattle.bp_select.specs.declared.bench.Stated.{Stated}
-use Rattle.bp_select.specs.inner.Lives.{live_of, lent}
+use Rattle.bp_live.specs.declared.stated.Stated.{Stated}
+use Rattle.bp_live.specs.Lives.{live_of, lent}
 use Rattle.bp_select.specs.inner.Eligible.{eligible_of}
 use Rattle.bp_select.specs.inner.Parts.{IsPart, asks_nothing}
 use Rattle.bp_select.proofs.PartLemmas.{chosen_part}

@@ -1,7 +1,7 @@
 use Rattle.std.proofs.Common.{◌∙◌, ◌++◌, ◌∷◌, [], ap}
 use Rattle.js_data.specs.Event.{PlainEvent}
-use Rattle.bp_select.specs.inner.Candidates.{event_of, events_in}
-use Rattle.bp_select.proofs.Firsts.{copies_step, copies_last}
+use Rattle.bp_live.specs.Candidates.{event_of, events_in}
+use Rattle.bp_live.proofs.Firsts.{copies_step, copies_last}
 use Rattle.bp_select.proofs.selecting.copies.Goals as goal
 
 pub loop-candidate-preserved : goal.loop-candidate-preserved

@@ -1,5 +1,5 @@
 use Rattle.std.proofs.Common.{◌≡◌, ◌++◌, drop}
-use Rattle.bp_select.specs.inner.Candidates.{events_in}
+use Rattle.bp_live.specs.Candidates.{events_in}
 use Rattle.bp_select.proofs.selecting.copies.Given as goal
 
 abbrev pub invariant-loop-candidate : goal.invariant-loop-candidate

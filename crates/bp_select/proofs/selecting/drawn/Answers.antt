@@ -2,7 +2,7 @@ use Rattle.std.proofs.Common.{◌∙◌, ◌%◌, ℕ, length, ap, Some, None}
 use Rattle.bp_draw.specs.Words.{draw_word}
 use Rattle.bp_run.specs.Choosing.{Choice}
 use Rattle.bp_draw.specs.Draws.{PlainDraw}
-use Rattle.bp_select.specs.inner.Candidates.{event_of}
+use Rattle.bp_live.specs.Candidates.{event_of}
 use Rattle.bp_select.proofs.Selects.{drawn_many}
 use Rattle.bp_select.proofs.selecting.drawn.Goals as goal
 

@@ -4,9 +4,9 @@ use Rattle.std.specs.declared.alloc.Global.{Global}
 use Rattle.std.proofs.lemmas.List.{length-map}
 use Rattle.bp_meaning.specs.Membership.{member}
 use Rattle.bp_run.specs.Selecting.{unblocked}
-use Rattle.bp_select.specs.inner.Candidates.{event_of, events_in, tops_of}
-use Rattle.bp_select.specs.inner.Tops.{HaveTops}
-use Rattle.bp_select.specs.declared.candidate.Candidate.{Candidate}
+use Rattle.bp_live.specs.Candidates.{event_of, events_in, tops_of}
+use Rattle.bp_live.specs.Tops.{HaveTops}
+use Rattle.bp_live.specs.declared.candidate.Candidate.{Candidate}
 use Rattle.bp_select.proofs.Selects.{are_candidates, have_tops, select_inner}
 use Rattle.bp_select.proofs.selecting.known.Goals as goal
 

@@ -4,15 +4,15 @@ use Rattle.std.specs.Borrow.{Bor}
 use Rattle.js_value.specs.Value.{PlainSet}
 use Rattle.js_frames.specs.Places.{plain_ground}
 use Rattle.bp_known.specs.Known.{AreKnown, sets_in}
-use Rattle.bp_select.specs.declared.bench.Stated.{Stated}
+use Rattle.bp_live.specs.declared.stated.Stated.{Stated}
 use Rattle.bp_meaning.specs.Membership.{member}
 use Rattle.bp_run.specs.Selecting.{selectable}
-use Rattle.bp_select.specs.declared.candidate.Candidate.{Candidate}
+use Rattle.bp_live.specs.declared.candidate.Candidate.{Candidate}
 use Rattle.bp_select.specs.declared.selecting.Eligible.{Eligible}
 use Rattle.bp_select.specs.Blocks.{AreOf}
-use Rattle.bp_select.specs.inner.Candidates.{tops_of}
+use Rattle.bp_live.specs.Candidates.{tops_of}
 use Rattle.bp_select.specs.inner.Eligible.{eligible_of}
-use Rattle.bp_select.specs.inner.Lives.{live_of, lent}
+use Rattle.bp_live.specs.Lives.{live_of, lent}
 use Rattle.bp_select.specs.inner.Parts.{IsPart, blocks_nothing}
 use Rattle.bp_select.proofs.PartLemmas.{of_part, order_part, tops_part}
 use Rattle.bp_select.proofs.Readiness.{begun, settled_after}

@@ -3,12 +3,12 @@ use Rattle.std.proofs.lemmas.List.{length-map}
 use Rattle.std.proofs.lemmas.Result.{err_from_is_err_and}
 use Rattle.js_frames.specs.Places.{plain_ground}
 use Rattle.bp_run.specs.Selecting.{Asked, Enabled, candidates}
-use Rattle.bp_select.specs.inner.Lives.{lent}
+use Rattle.bp_live.specs.Lives.{lent}
 use Rattle.bp_select.specs.Answers.{AnswersAs}
-use Rattle.bp_select.specs.inner.Tops.{HaveTops}
-use Rattle.bp_select.specs.inner.Candidates.{event_of, events_in, tops_of}
+use Rattle.bp_live.specs.Tops.{HaveTops}
+use Rattle.bp_live.specs.Candidates.{event_of, events_in, tops_of}
 use Rattle.bp_select.specs.inner.Eligible.{eligible_of}
-use Rattle.bp_select.specs.declared.candidate.Candidate.{Candidate}
+use Rattle.bp_live.specs.declared.candidate.Candidate.{Candidate}
 use Rattle.bp_select.proofs.Selects.{are_candidates, have_tops, selectable_fault, selectable_queued, selectable_inner}
 use Rattle.bp_select.proofs.selecting.told.Goals as goal
 

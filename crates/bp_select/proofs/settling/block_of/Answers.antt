@@ -1,8 +1,8 @@
 use Rattle.std.proofs.Common.{◌∙◌, ap, sym}
-use Rattle.bp_select.specs.declared.bench.Stated.{Stated}
+use Rattle.bp_live.specs.declared.stated.Stated.{Stated}
 use Rattle.bp_select.specs.Blocks.{own_set}
-use Rattle.bp_select.specs.inner.Lives.{live_of}
-use Rattle.bp_select.proofs.Leaving.{at_within}
+use Rattle.bp_live.specs.Lives.{live_of}
+use Rattle.bp_live.proofs.Leaving.{at_within}
 use Rattle.bp_select.proofs.Noting.{absent_block, found_block}
 use Rattle.bp_select.proofs.settling.block_of.Goals as goal
 

@@ -1,6 +1,6 @@
 use Rattle.std.proofs.Common.{◌<◌, arith, length, map}
 use Rattle.bp_known.specs.Known.{sets_in}
-use Rattle.bp_select.specs.inner.Lives.{live_of}
+use Rattle.bp_live.specs.Lives.{live_of}
 use Rattle.bp_select.proofs.Noting.{settled_fault, settled_step}
 use Rattle.bp_select.proofs.settling.settle.Goals as goal
 

@@ -3,7 +3,7 @@ use Rattle.js_value.specs.Value.{PlainSet}
 use Rattle.js_frames.specs.Places.{plain_ground}
 use Rattle.bp_known.specs.Known.{AreKnown, sets_in}
 use Rattle.bp_run.specs.Selecting.{Live}
-use Rattle.bp_select.specs.inner.Lives.{live_of}
+use Rattle.bp_live.specs.Lives.{live_of}
 use Rattle.bp_select.specs.Tallies.{Tallied}
 use Rattle.bp_select.specs.inner.Counted.{plain_tally}
 use Rattle.bp_select.proofs.Noting.{AreSettledBefore}

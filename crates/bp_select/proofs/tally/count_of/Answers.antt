@@ -4,14 +4,14 @@ use Rattle.std.specs.declared.alloc.Global.{Global}
 use Rattle.std.proofs.lemmas.List.{length-map}
 use Rattle.js_frames.specs.Places.{plain_ground}
 use Rattle.bp_known.specs.Known.{sets_in}
-use Rattle.bp_select.specs.declared.bench.Stated.{Stated}
-use Rattle.bp_select.specs.declared.candidate.Candidate.{Candidate}
-use Rattle.bp_select.specs.inner.Candidates.{event_of, events_in}
-use Rattle.bp_select.specs.inner.Lives.{live_of}
+use Rattle.bp_live.specs.declared.stated.Stated.{Stated}
+use Rattle.bp_live.specs.declared.candidate.Candidate.{Candidate}
+use Rattle.bp_live.specs.Candidates.{event_of, events_in}
+use Rattle.bp_live.specs.Lives.{live_of}
 use Rattle.bp_select.specs.Tallies.{AreFreeOf}
 use Rattle.bp_select.specs.inner.Counted.{IsAlone}
 use Rattle.bp_select.proofs.HeedLemmas.{absent_each}
-use Rattle.bp_select.proofs.Leaving.{at_within}
+use Rattle.bp_live.proofs.Leaving.{at_within}
 use Rattle.bp_select.proofs.TallyLemmas.{absent_counted, found_counted}
 use Rattle.bp_select.proofs.tally.count_of.Goals as goal
 

@@ -3,11 +3,11 @@ use Rattle.std.specs.Prelude.{IfSome}
 use Rattle.std.specs.declared.alloc.Global.{Global}
 use Rattle.js_frames.specs.Places.{plain_ground}
 use Rattle.bp_known.specs.Known.{sets_in}
-use Rattle.bp_select.specs.declared.candidate.Candidate.{Candidate}
-use Rattle.bp_select.specs.inner.Candidates.{events_in}
-use Rattle.bp_select.specs.inner.Lives.{live_of}
+use Rattle.bp_live.specs.declared.candidate.Candidate.{Candidate}
+use Rattle.bp_live.specs.Candidates.{events_in}
+use Rattle.bp_live.specs.Lives.{live_of}
 use Rattle.bp_select.specs.Tallies.{AreFreeOf}
-use Rattle.bp_select.proofs.Leaving.{at_within}
+use Rattle.bp_live.proofs.Leaving.{at_within}
 use Rattle.bp_select.proofs.TallyLemmas.{event_when}
 use Rattle.bp_select.proofs.tally.event_of.Goals as goal
 

@@ -1,5 +1,5 @@
 use Rattle.js_frames.specs.Places.{plain_ground}
-use Rattle.bp_select.specs.inner.Lives.{live_of}
+use Rattle.bp_live.specs.Lives.{live_of}
 use Rattle.bp_select.proofs.TallyLemmas.{free_same}
 use Rattle.bp_select.proofs.tally.free_of.Goals as goal
 

@@ -1,6 +1,6 @@
 use Rattle.std.proofs.Common.{◌≡◌, ◌<◌, ◌≤◌, List, get_or, length, map, subst}
 use Rattle.js_data.specs.Event.{PlainEvent}
-use Rattle.bp_select.specs.inner.Lives.{live_of}
+use Rattle.bp_live.specs.Lives.{live_of}
 use Rattle.bp_select.proofs.TallyLemmas.{alone_last, alone_step}
 use Rattle.bp_select.proofs.tally.is_alone.Goals as goal
 

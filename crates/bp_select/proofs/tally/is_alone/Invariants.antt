@@ -1,6 +1,6 @@
 use Rattle.std.proofs.Common.{map, take}
 use Rattle.bp_select.specs.Tallies.{Each}
-use Rattle.bp_select.specs.inner.Lives.{live_of}
+use Rattle.bp_live.specs.Lives.{live_of}
 use Rattle.bp_select.proofs.TallyLemmas.{OthersPassAll}
 use Rattle.bp_select.proofs.tally.is_alone.Given as goal
 

@@ -1,8 +1,8 @@
 use Rattle.std.proofs.Common.{◌≡◌, ◌⊎◌, ◌<◌, ℕ, List, true, get_or, length, subst, sym}
 use Rattle.bp_roll.specs.Rolls.{is_in}
-use Rattle.bp_select.specs.declared.bench.Stated.{Stated}
+use Rattle.bp_live.specs.declared.stated.Stated.{Stated}
 use Rattle.bp_select.specs.inner.Heeding.{Stays}
-use Rattle.bp_select.specs.inner.Lives.{live_of}
+use Rattle.bp_live.specs.Lives.{live_of}
 use Rattle.bp_select.proofs.TallyLemmas.{not_true, own_each}
 use Rattle.bp_select.proofs.tally.is_own.Goals as goal
 

@@ -1,8 +1,8 @@
 use Rattle.std.proofs.Common.{◌∙◌, ◌<◌, ℕ, List, ap, get_or, length}
 use Rattle.std.proofs.lemmas.List.{take_all}
 use Rattle.bp_roll.specs.Rolls.{is_in}
-use Rattle.bp_select.specs.declared.bench.Stated.{Stated}
-use Rattle.bp_select.specs.inner.Lives.{live_of}
+use Rattle.bp_live.specs.declared.stated.Stated.{Stated}
+use Rattle.bp_live.specs.Lives.{live_of}
 use Rattle.bp_select.proofs.TallyLemmas.{OthersPass, among_step}
 use Rattle.bp_select.proofs.tally.is_requested_among.Goals as goal
 

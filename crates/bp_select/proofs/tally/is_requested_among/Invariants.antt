@@ -1,7 +1,7 @@
 use Rattle.std.proofs.Common.{◌≡◌, ◌<◌, ℕ, true, get_or, length, take}
 use Rattle.bp_roll.specs.Rolls.{is_in}
-use Rattle.bp_select.specs.declared.bench.Stated.{Stated}
-use Rattle.bp_select.specs.inner.Lives.{live_of}
+use Rattle.bp_live.specs.declared.stated.Stated.{Stated}
+use Rattle.bp_live.specs.Lives.{live_of}
 use Rattle.bp_select.proofs.TallyLemmas.{OthersPass}
 use Rattle.bp_select.proofs.tally.is_requested_among.Given as goal
 

@@ -1,8 +1,8 @@
 use Rattle.std.proofs.Common.{◌∙◌, [], ◌∷◌, List, ap}
 use Rattle.bp_known.specs.Known.{sets_in}
-use Rattle.bp_select.specs.declared.candidate.Candidate.{Candidate}
-use Rattle.bp_select.specs.inner.Candidates.{event_of, events_in, tops_of}
-use Rattle.bp_select.specs.inner.Lives.{live_of}
+use Rattle.bp_live.specs.declared.candidate.Candidate.{Candidate}
+use Rattle.bp_live.specs.Candidates.{event_of, events_in, tops_of}
+use Rattle.bp_live.specs.Lives.{live_of}
 use Rattle.bp_select.proofs.Selects.{are_candidates}
 use Rattle.bp_select.proofs.TallyLemmas.{free_when}
 use Rattle.bp_select.proofs.tally.known_free.Goals as goal

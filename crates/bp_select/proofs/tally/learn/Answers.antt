@@ -1,8 +1,8 @@
 use Rattle.std.proofs.Common.{List, map, subst, sym}
 use Rattle.std.specs.Borrow.{Bor}
 use Rattle.js_frames.specs.Places.{plain_ground}
-use Rattle.bp_select.specs.declared.bench.Stated.{Stated}
-use Rattle.bp_select.specs.inner.Lives.{live_of, lent}
+use Rattle.bp_live.specs.declared.stated.Stated.{Stated}
+use Rattle.bp_live.specs.Lives.{live_of, lent}
 use Rattle.bp_select.specs.inner.Parts.{IsPart, blocks_nothing}
 use Rattle.bp_select.proofs.PartLemmas.{of_part, order_part}
 use Rattle.bp_select.proofs.Readiness.{ready_after}

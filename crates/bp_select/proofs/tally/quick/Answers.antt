@@ -6,7 +6,7 @@ use Rattle.bp_draw.specs.Words.{draw_word}
 use Rattle.bp_log.specs.declared.options.Strategy.{Strategy}
 use Rattle.bp_meaning.specs.Membership.{member}
 use Rattle.bp_run.specs.Choosing.{choice}
-use Rattle.bp_select.specs.inner.Lives.{live_of}
+use Rattle.bp_live.specs.Lives.{live_of}
 use Rattle.bp_select.specs.inner.Counted.{chosen_as}
 use Rattle.bp_select.proofs.tally.quick.Goals as goal
 

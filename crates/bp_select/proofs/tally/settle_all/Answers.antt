@@ -2,7 +2,7 @@ use Rattle.std.proofs.Common.{◌∙◌, List, ℕ, map, refl, slice_index, subs
 use Rattle.js_value.specs.Value.{PlainSet}
 use Rattle.js_frames.specs.Places.{plain_ground}
 use Rattle.bp_known.specs.Known.{sets_in}
-use Rattle.bp_select.specs.inner.Lives.{live_of}
+use Rattle.bp_live.specs.Lives.{live_of}
 use Rattle.bp_select.specs.inner.Counted.{IsCounted}
 use Rattle.bp_roll.specs.Counting.{count_at}
 use Rattle.bp_select.proofs.TallyLemmas.{tallied_all, tallied_fault, tallied_next, tallied_still}

@@ -1,7 +1,7 @@
 use Rattle.std.proofs.Common.{◌≡◌, drop, map}
 use Rattle.js_frames.specs.Places.{plain_ground}
 use Rattle.bp_known.specs.Known.{sets_in}
-use Rattle.bp_select.specs.inner.Lives.{live_of}
+use Rattle.bp_live.specs.Lives.{live_of}
 use Rattle.bp_select.specs.inner.Settled.{AreReady}
 use Rattle.bp_select.specs.Tallies.{AreTallied}
 use Rattle.bp_select.proofs.tally.settle_all.Given as goal

@@ -2,7 +2,7 @@ use Rattle.std.proofs.Common.{Option, ℕ, map, subst}
 use Rattle.std.specs.Prelude.{IfSome}
 use Rattle.js_frames.specs.Places.{plain_ground}
 use Rattle.bp_known.specs.Known.{sets_in}
-use Rattle.bp_select.specs.inner.Lives.{live_of}
+use Rattle.bp_live.specs.Lives.{live_of}
 use Rattle.bp_select.specs.inner.Counted.{IsCounted}
 use Rattle.bp_select.proofs.TallyLemmas.{counted_when}
 use Rattle.bp_select.proofs.tally.settle_one.Goals as goal

@@ -3,7 +3,7 @@ use Rattle.js_value.specs.Value.{PlainSet}
 use Rattle.js_frames.specs.Places.{plain_ground}
 use Rattle.bp_meaning.specs.Membership.{member}
 use Rattle.bp_run.specs.Selecting.{Live, blocker}
-use Rattle.bp_select.specs.inner.Lives.{live_of}
+use Rattle.bp_live.specs.Lives.{live_of}
 use Rattle.bp_select.specs.Benches.{PlainBench}
 use Rattle.bp_select.specs.Answers.{AnswersAs}
 use Rattle.bp_select.proofs.bench.Bench.blocker.Goals as goal

@@ -5,7 +5,7 @@ use Rattle.bp_meaning.specs.Membership.{member}
 use Rattle.bp_known.specs.Known.{sets_in}
 use Rattle.bp_run.specs.Selecting.{Live, selectable}
 use Rattle.bp_select.specs.Answers.{AnswersAs, enabled_of}
-use Rattle.bp_select.specs.inner.Lives.{live_of}
+use Rattle.bp_live.specs.Lives.{live_of}
 use Rattle.bp_select.specs.Benches.{Fits, PlainBench}
 use Rattle.bp_select.specs.Tallies.{Tallied}
 use Rattle.bp_select.specs.inner.Counted.{plain_tally}

@@ -4,7 +4,7 @@ use Rattle.js_frames.specs.Places.{plain_ground}
 use Rattle.bp_meaning.specs.Membership.{member}
 use Rattle.bp_run.specs.Selecting.{Live}
 use Rattle.bp_run.specs.Choosing.{reach}
-use Rattle.bp_select.specs.inner.Lives.{live_of}
+use Rattle.bp_live.specs.Lives.{live_of}
 use Rattle.bp_select.specs.Benches.{PlainBench}
 use Rattle.bp_select.specs.Answers.{AnswersReach}
 use Rattle.bp_select.proofs.bench.Bench.reach.Goals as goal

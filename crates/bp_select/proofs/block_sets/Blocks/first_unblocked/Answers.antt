@@ -3,7 +3,7 @@ use Rattle.js_value.specs.Value.{PlainSet}
 use Rattle.js_frames.specs.Places.{plain_ground}
 use Rattle.bp_select.specs.Blocks.{AreOf}
 use Rattle.bp_known.specs.Known.{AreKnown, sets_in}
-use Rattle.bp_select.specs.inner.Lives.{lent}
+use Rattle.bp_live.specs.Lives.{lent}
 use Rattle.bp_select.proofs.block_sets.Blocks.first_unblocked.Goals as goal
 
 pub is_blocked-requires-clause-sets : goal.is_blocked-requires-clause-sets

@@ -1,7 +1,7 @@
 use Rattle.std.proofs.Common.{map, sym, subst}
 use Rattle.js_frames.specs.Places.{plain_ground}
 use Rattle.bp_known.specs.Known.{IsKnown, sets_in}
-use Rattle.bp_select.specs.inner.Lives.{lent}
+use Rattle.bp_live.specs.Lives.{lent}
 use Rattle.bp_known.specs.declared.known.Known.{Known}
 use Rattle.bp_select.proofs.Telling.{blocked_by_one, free_of_all}
 use Rattle.bp_select.proofs.block_sets.Blocks.is_blocked.Goals as goal

@@ -5,9 +5,9 @@ use Rattle.bp_meaning.specs.Membership.{member}
 use Rattle.bp_run.specs.Selecting.{Live, unblocked}
 use Rattle.bp_known.specs.Known.{AreKnown, sets_in}
 use Rattle.bp_select.specs.Blocks.{AreOf}
-use Rattle.bp_select.specs.inner.Candidates.{events_in, tops_of}
-use Rattle.bp_select.specs.Places.{AreInOrder}
-use Rattle.bp_select.specs.inner.Tops.{HaveTops}
+use Rattle.bp_live.specs.Candidates.{events_in, tops_of}
+use Rattle.bp_live.specs.Places.{AreInOrder}
+use Rattle.bp_live.specs.Tops.{HaveTops}
 use Rattle.bp_select.proofs.Questions.{behind}
 use Rattle.bp_select.proofs.block_sets.Blocks.known_free.Given as goal
 

@@ -3,12 +3,8 @@ use Rattle.js_data.specs.Event.{PlainEvent}
 use Rattle.bp_known.specs.declared.known.Told.{Told}
 use Rattle.bp_select.specs.inner.BlockSets.{PlainBlocks}
 use Rattle.bp_known.specs.Known.{AreKnown, IsKnown}
-use Rattle.bp_known.proofs.Knowing.{noted_here, told_more}
+use Rattle.bp_known.proofs.Knowing.{told_more}
 use Rattle.bp_select.proofs.block_sets.Blocks.note.Goals as goal
-
-pub returns-in-Some-clause-known : goal.returns-in-Some-clause-known
-returns-in-Some-clause-known c = λ base budget sets k told.
-    noted_here base budget sets c.args.self.now.told c.self.inside.told.items c.in-Some.at c.index_mut.result.now c.args.event.now c.args.known (ap (λ (b : PlainBlocks). b.told) c.self.view_is) c.in-Some.ensures.0 c.in-Some.ensures.1 c.index_mut.ensures.value k told
 
 pub returns-then-is_ok-clause-known : goal.returns-then-is_ok-clause-known
 returns-then-is_ok-clause-known c = λ base budget sets k told.

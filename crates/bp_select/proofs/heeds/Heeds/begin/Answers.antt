@@ -1,7 +1,7 @@
 use Rattle.std.proofs.Common.{◌≡◌, List, ℕ, map, subst, sym, true}
 use Rattle.bp_roll.specs.Rolls.{is_in}
 use Rattle.bp_select.specs.Tallies.{Each}
-use Rattle.bp_select.specs.inner.Lives.{live_of}
+use Rattle.bp_live.specs.Lives.{live_of}
 use Rattle.bp_select.proofs.HeedLemmas.{all_changed}
 use Rattle.bp_select.proofs.heeds.Heeds.begin.Goals as goal
 

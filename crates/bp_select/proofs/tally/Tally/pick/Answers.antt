@@ -2,7 +2,7 @@ use Rattle.std.proofs.Common.{◌∙◌, [], ℕ, List, map, subst, sym}
 use Rattle.js_value.specs.Value.{PlainSet}
 use Rattle.js_frames.specs.Places.{plain_ground}
 use Rattle.bp_known.specs.Known.{sets_in}
-use Rattle.bp_select.specs.inner.Lives.{live_of}
+use Rattle.bp_live.specs.Lives.{live_of}
 use Rattle.bp_select.specs.Tallies.{AreTallied}
 use Rattle.bp_select.specs.inner.Counted.{plain_tally}
 use Rattle.bp_select.proofs.Readiness.{ready_after}

@@ -1,0 +1,7 @@
+pub mod Lives
+pub mod Places
+pub mod Placing
+pub mod Numbers
+pub mod Lists
+pub mod Tops
+pub mod Candidates

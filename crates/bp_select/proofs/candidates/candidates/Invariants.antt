@@ -1,8 +1,0 @@
-use Rattle.std.proofs.Common.{◌≡◌, [], map, drop}
-use Rattle.bp_select.specs.inner.Lives.{lent}
-use Rattle.bp_select.specs.inner.Tops.{with_live}
-use Rattle.bp_select.specs.inner.Candidates.{tops_in}
-use Rattle.bp_select.proofs.candidates.candidates.Given as goal
-
-abbrev pub invariant-loop-stated : goal.invariant-loop-stated
-invariant-loop-stated l = with_live (tops_in l.tops) (map lent (drop l.stated-index l.asking)) ≡ with_live [] (map lent l.asking)
