@@ -1,5 +1,6 @@
 //! An event is selected: whom it reaches, and what it weighs.
 ghost use Rattle.std.specs.Prelude.{◌≡◌, ◌<◌, ◌≤◌, ◌+◌, ◌*◌, List, Some, Ok, length, map, option_map, IfOk, OnOk, OnErr};
+ghost use Rattle.std.specs.Arc.{arc_value};
 ghost use Rattle.js_data.specs.Event.{event_weight};
 ghost use Rattle.js_frames.specs.Places.{plain_ground};
 ghost use Rattle.bp_log.specs.declared.limits.TheConstants.{MOST_THREADS, MOST_WEIGHT};
@@ -21,6 +22,7 @@ use bp_sets::SetFault;
 use js_data::{Event, Fault};
 use js_frames::Ground;
 use std::alloc::{AllocError, Global};
+use std::sync::Arc;
 
 /// What an event leads to.
 #[derive(Drop)]
@@ -72,6 +74,14 @@ fn touches_of(alloc: Global, reach: &Reach) -> Result<Vec<Touch>, Memory>
         }
     }
     Ok(touches)
+}
+
+/// A copy of the event, which all that are given it share.
+fn share(alloc: Global, event: &Event) -> Result<Arc<Event>, Memory>
+    ensures { IfOk result (λ shared. arc_value shared ≡ event.now) }
+{
+    let copied = event.copy()?;
+    Ok(Arc::new(alloc, copied)?)
 }
 
 impl Board {
@@ -181,8 +191,9 @@ impl Board {
             Outlook::Stops(verdict) => Ok(Went::Stopped(verdict)),
             Outlook::Reaches(reach, weight) => {
                 let touches = touches_of(alloc, &reach)?;
-                let wave = self.seats.entries(alloc, event, touches.as_slice())?;
-                self.step(event, place, touches.as_slice(), wave, weight)?;
+                let shared = share(alloc, event)?;
+                let wave = self.seats.entries(alloc, &shared, touches.as_slice())?;
+                self.step(&shared, place, touches.as_slice(), wave, weight)?;
                 Ok(Went::Moved)
             }
         }

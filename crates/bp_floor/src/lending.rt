@@ -108,8 +108,9 @@ impl Seats {
             CanLend r (plain_ground ground.now) options wave.now self.old →
             AreOut r wave.now js.items self.old self.new) }
     {
-        let mut jobs = Vec::new(alloc);
-        for entry in wave.as_slice() {
+        let entries = wave.as_slice();
+        let mut jobs = Vec::with_capacity(alloc, entries.len())?;
+        for entry in entries {
             let job = self.lend_one(alloc, ground, options, entry)?;
             push_some(&mut jobs, job)?;
         }

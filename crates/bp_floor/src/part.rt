@@ -1,5 +1,5 @@
 //! What bodies did.
-ghost use Rattle.std.specs.Prelude.{◌≡◌, ◌∷◌, ◌++◌, [], OnOk, map};
+ghost use Rattle.std.specs.Prelude.{◌≡◌, ◌∷◌, ◌++◌, [], IfOk, OnOk, map};
 ghost use Rattle.bp_floor.specs.inner.Parts.{ran_seen};
 
 use crate::Entry;
@@ -70,13 +70,13 @@ impl Model for Rans {
 }
 
 impl Rans {
-    /// Nothing ran.
-    pub fn new(alloc: Global) -> Rans
-        ensures { result ≡ [] }
+    /// Nothing ran; there is room for this many.
+    pub fn with_capacity(alloc: Global, count: usize) -> Result<Rans, Memory>
+        ensures { IfOk result (λ rans. rans ≡ []) }
     {
-        Rans {
-            items: Vec::new(alloc),
-        }
+        Ok(Rans {
+            items: Vec::with_capacity(alloc, count)?,
+        })
     }
 
     /// Puts one at the end.

@@ -1,7 +1,6 @@
 //! A transition: an event reaches b-threads.
 ghost use Rattle.std.specs.Prelude.{◌≡◌, ◌<◌, ◌+◌, ◌^◌, length, map, option_map, slice_get, IfOk, OnOk, OnErr, IfSome};
-ghost use Rattle.js_value.specs.Value as value;
-ghost use Rattle.js_value.specs.Views.{plain_value};
+ghost use Rattle.std.specs.Arc.{arc_value};
 ghost use Rattle.bp_run.specs.Story.{line_of_choice, handler_body, entry_of};
 ghost use Rattle.bp_thread.specs.Jobs.{plain_job};
 ghost use Rattle.bp_code.specs.Code.{sealed_code_of as code_of};
@@ -19,8 +18,9 @@ use crate::{Board, Entry, Handler, Seats, Wave};
 use bp_log::{Line, Memory};
 use bp_thread::Job;
 use js_data::Event;
-use js_value::{Value, copy, event_value};
+use js_value::{Value, copy};
 use std::alloc::Global;
+use std::sync::Arc;
 
 /// What an event does to a b-thread, by its number.
 #[derive(Clone, Copy)]
@@ -32,20 +32,13 @@ pub(crate) enum Touch {
 }
 
 /// The line of a transition.
-fn line_of(event: &Event, place: Option<u32>) -> Result<Line, Memory>
-    ensures { IfOk result (λ x. x ≡ line_of_choice event.now place) }
+fn line_of(event: &Arc<Event>, place: Option<u32>) -> Result<Line, Memory>
+    ensures { IfOk result (λ x. x ≡ line_of_choice (arc_value event.now) place) }
 {
     match place {
         None => Ok(Line::Event(event.copy()?)),
         Some(_) => Ok(Line::External(event.copy()?)),
     }
-}
-
-/// An event as the argument of a handler.
-fn argument_of(alloc: Global, event: &Event) -> Result<Value, Memory>
-    ensures { IfOk result (λ v. plain_value v ≡ value.event event.now) }
-{
-    event_value(alloc, event.copy()?)
 }
 
 /// What a job keeps of its handler, as a fact for its callers. Does nothing.
@@ -57,24 +50,24 @@ fn keeps_handler(job: &Job)
 }
 
 /// The handler of a job at an event, if it set one.
-fn handler_of(alloc: Global, job: &Job, event: &Event) -> Result<Option<Handler>, Memory>
+fn handler_of(job: &Job, event: &Arc<Event>) -> Result<Option<Handler>, Memory>
     ensures { IfOk result (λ h. option_map handler_seen h
-        ≡ option_map (handler_at event.now) (plain_job job.now).handler) }
+        ≡ option_map (handler_at (arc_value event.now)) (plain_job job.now).handler) }
 {
     match job.handler() {
         None => Ok(None),
         Some(function) => Ok(Some(Handler {
             function: copy(function)?,
-            argument: argument_of(alloc, event)?,
+            argument: Value::Event(event.clone()?),
         })),
     }
 }
 
 impl Seats {
     /// A b-thread that stands at its point receives the event.
-    fn give(&mut self, number: usize, event: &Event) -> Result<(), Memory>
+    fn give(&mut self, number: usize, event: &Arc<Event>) -> Result<(), Memory>
         requires { IsStanding (slice_get self.old number) }
-        ensures { OnOk result (IsGivenTo event.now number self.old self.new) }
+        ensures { OnOk result (IsGivenTo (arc_value event.now) number self.old self.new) }
     {
         if let Some(mut job) = self.take(number) {
             job.give(event)?;
@@ -84,16 +77,11 @@ impl Seats {
     }
 
     /// The handler of a b-thread at the event that interrupts it, if it set one.
-    fn handler(
-        &self,
-        alloc: Global,
-        number: usize,
-        event: &Event,
-    ) -> Result<Option<Handler>, Memory>
+    fn handler(&self, number: usize, event: &Arc<Event>) -> Result<Option<Handler>, Memory>
         requires { IsStanding (slice_get self.now number) }
         ensures { IfOk result (λ h. (r : Running) → AreOwn r.program r.options 0 self.now →
             option_map handler_seen h
-            ≡ handler_body (code_of r.program r.options) event.now (slice_get
+            ≡ handler_body (code_of r.program r.options) (arc_value event.now) (slice_get
             (map seated self.now) number)) }
     {
         match self.job(number) {
@@ -101,38 +89,43 @@ impl Seats {
             Some(job) => {
                 // For the proof: what the job keeps of its handler.
                 keeps_handler(job);
-                handler_of(alloc, job, event)
+                handler_of(job, event)
             }
         }
     }
 
     /// What runs after an event does this.
-    fn entry(&self, alloc: Global, event: &Event, touch: Touch) -> Result<Entry, Memory>
+    fn entry(&self, event: &Arc<Event>, touch: Touch) -> Result<Entry, Memory>
         requires { IsStanding (slice_get self.now (number_in (touch_seen touch))) }
         ensures { IfOk result (λ n. (r : Running) (s : Stand Origin) →
             AreOwn r.program r.options 0 self.now → s.threads ≡ map seated self.now →
-            entry_seen n ≡ entry_of (code_of r.program r.options) s event.now (touch_seen touch)) }
+            entry_seen n ≡ entry_of (code_of r.program r.options) s (arc_value event.now) (touch_seen touch)) }
     {
         match touch {
             Touch::Moves(number) => Ok(Entry::Runs(number)),
             Touch::Interrupts(number) => Ok(Entry::Stops(
                 number,
-                self.handler(alloc, number as usize, event)?,
+                self.handler(number as usize, event)?,
             )),
         }
     }
 
     /// What runs after an event does all this.
-    pub fn entries(&self, alloc: Global, event: &Event, touches: &[Touch]) -> Result<Wave, Memory>
+    pub fn entries(
+        &self,
+        alloc: Global,
+        event: &Arc<Event>,
+        touches: &[Touch],
+    ) -> Result<Wave, Memory>
         requires { AreStanding (map touch_seen touches.now) self.now }
         ensures { IfOk result (λ w. (r : Running) (s : Stand Origin) →
             AreOwn r.program r.options 0 self.now → s.threads ≡ map seated self.now →
-            w ≡ map (entry_of (code_of r.program r.options) s event.now)
+            w ≡ map (entry_of (code_of r.program r.options) s (arc_value event.now))
             (map touch_seen touches.now)) }
     {
         let mut wave = Wave::new(alloc);
         for touch in touches {
-            wave.push(self.entry(alloc, event, *touch)?)?;
+            wave.push(self.entry(event, *touch)?)?;
         }
         Ok(wave)
     }
@@ -140,9 +133,9 @@ impl Seats {
 
 impl Board {
     /// An event does this to a b-thread.
-    fn touch(&mut self, event: &Event, touch: Touch) -> Result<(), Memory>
+    fn touch(&mut self, event: &Arc<Event>, touch: Touch) -> Result<(), Memory>
         requires { IsStanding (slice_get self.old.seats (number_in (touch_seen touch))) }
-        ensures touched { OnOk result (IsTouch event.now (touch_seen touch) self.old self.new) }
+        ensures touched { OnOk result (IsTouch (arc_value event.now) (touch_seen touch) self.old self.new) }
         ensures lines { self.new.lines ≡ self.old.lines }
         ensures verdict { self.new.verdict ≡ self.old.verdict }
     {
@@ -160,11 +153,11 @@ impl Board {
     }
 
     /// An event does all this.
-    fn touch_all(&mut self, event: &Event, touches: &[Touch]) -> Result<(), Memory>
+    fn touch_all(&mut self, event: &Arc<Event>, touches: &[Touch]) -> Result<(), Memory>
         requires { (r : Running) × CanTouch r (map touch_seen touches.now) self.old }
         ensures touched { OnOk result ((r : Running) →
             CanTouch r (map touch_seen touches.now) self.old →
-            IsTouchedBy r event.now (map touch_seen touches.now) self.old self.new) }
+            IsTouchedBy r (arc_value event.now) (map touch_seen touches.now) self.old self.new) }
         ensures lines { self.new.lines ≡ self.old.lines }
         ensures verdict { self.new.verdict ≡ self.old.verdict }
     {
@@ -177,7 +170,7 @@ impl Board {
     /// The transition itself. What takes memory comes first, and the line last of that.
     pub fn step(
         &mut self,
-        event: &Event,
+        event: &Arc<Event>,
         place: Option<u32>,
         touches: &[Touch],
         wave: Wave,
@@ -188,7 +181,7 @@ impl Board {
         requires can { (r : Running) × CanTouch r (map touch_seen touches.now) self.old }
         ensures stepped { OnOk result ((r : Running) →
             CanTouch r (map touch_seen touches.now) self.old →
-            pair_of self.new ≡ forgotten the_top (moved_pair (stand_of self.old) event.now place
+            pair_of self.new ≡ forgotten the_top (moved_pair (stand_of self.old) (arc_value event.now) place
             (map touch_seen touches.now) weight wave)) }
         ensures kept { OnOk result ((r : Running) →
             CanTouch r (map touch_seen touches.now) self.old →

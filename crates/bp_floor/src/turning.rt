@@ -8,7 +8,7 @@ ghost use Rattle.js_frames.specs.Places.{plain_ground};
 ghost use Rattle.bp_run.specs.Bodies as run;
 ghost use Rattle.bp_run.specs.Settling as settling;
 ghost use Rattle.bp_run.specs.Settling.{merged, turn, before};
-ghost use Rattle.bp_select.specs.Benches.{live_at};
+ghost use Rattle.bp_live.specs.Placing.{live_at};
 ghost use Rattle.bp_thread.specs.Views.{plain_statement};
 ghost use Rattle.bp_thread.specs.Jobs.{plain_job, is_ended};
 ghost use Rattle.bp_floor.specs.inner.Seats.{seated, stop_at};
@@ -179,8 +179,9 @@ impl Board {
             (plain_ground ground.new) self.new rans) }
         ensures same { OnOk result (IsSameBut self.old self.new) }
     {
-        let mut rans = Rans::new(alloc);
-        for entry in wave.into_vec() {
+        let entries = wave.into_vec();
+        let mut rans = Rans::with_capacity(alloc, entries.len())?;
+        for entry in entries {
             let part = self.next_part(alloc, ground, &entry, &mut jobs)?;
             rans.push(Ran { entry, part })?;
         }

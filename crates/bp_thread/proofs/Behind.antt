@@ -23,11 +23,9 @@ use Rattle.js_frames.specs.declared.frame.Frame.{Frame}
 use Rattle.js_frames.specs.declared.frame.Frame.TheVariants.{Waiting, Iterating, Called}
 use Rattle.js_frames.specs.declared.step.Step.{Step}
 use Rattle.js_frames.specs.declared.step.Step.TheVariants.{Begin, Give, Ask, Fail, Violate}
-use Rattle.js_frames.specs.declared.machine.Pending.{Pending}
-use Rattle.js_frames.specs.declared.machine.Pending.TheVariants.{Next, Resumed}
-use Rattle.js_frames.specs.Frames.{statements_of, parts_from, declares_from, declaring_from, rest, again, resume, plug, step_outcome}
+use Rattle.js_frames.specs.Frames.{statements_of, parts_from, declares_from, declaring_from, rest, again, resume, plug, step_outcome, future}
 use Rattle.js_frames.specs.Places.{place_of, setting_at, state_at, plain_effects}
-use Rattle.js_frames.specs.Runs.{Stands, pending_outcome}
+use Rattle.js_frames.specs.Runs.{Stands}
 use Rattle.bp_thread.specs.declared.job.Job.{Job}
 use Rattle.bp_thread.specs.Views.{plain_origin}
 use Rattle.bp_thread.specs.Jobs.{StandsAt, IsWhole}
@@ -138,21 +136,17 @@ module _ (g : Setting) where
   step_behind es (Fail f line) s b = b
   step_behind es (Violate text) s b = b
 
-  pending_behind : (es : List Effect) (next : Pending) (s : State) → (more : List Effect) × (s.effects ≡ es ++ more) → Behind es (pending_outcome g next s)
-  pending_behind es (Next step) s b = step_behind es step s b
-  pending_behind es (Resumed event) s b = b
-
 -- what was made stays, whatever replies come
 pub made_begins : (base : Ground) (budget begun : ℕ) (made : List Effect) (j : Job) (later : List PlainEvent) → StandsAt base budget begun made j →
     (more : List Effect) × (effects_of (evaluation base budget (plain_origin j.origin) (j.replies ++ later)) ≡ made ++ more)
-unfolding Stands
+unfolding Stands future
 made_begins base budget begun made j later at =
     let c = at.stands in
     let engine = (at.machine).engine in
     let g = setting_at base (place_of engine) in
     subst (λ (o : Outcome). Behind made o) (c.comes later)
     (plug_behind g made (place_of engine).stack _
-    (pending_behind g made c.next (state_at (place_of engine) (record { taken = made; delivered = c.delivered; replies = later })) (plain_effects engine.effects, refl)))
+    (step_behind g made c.next (state_at (place_of engine) (record { taken = made; delivered = c.delivered; replies = later })) (plain_effects engine.effects, refl)))
 
 -- and what a whole job has begins what it has at last
 pub whole_begins : (base : Ground) (budget : ℕ) (j : Job) → IsWhole base budget j →

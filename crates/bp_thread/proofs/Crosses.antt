@@ -13,6 +13,8 @@ use Rattle.js_value.proofs.Crosses.{items_send, value_send, event_set_send}
 use Rattle.js_frames.proofs.Crosses.{effects_send, machine_send}
 use Rattle.bp_thread.specs.contracts.events.Events as Events
 use Rattle.bp_thread.specs.contracts.requests.Requests as Requests
+use Rattle.bp_thread.specs.contracts.replies.Replies as Replies
+use Rattle.js_data.specs.contracts.event.Event as Event
 use Rattle.bp_thread.specs.contracts.statement.Statement as Statement
 use Rattle.bp_thread.specs.contracts.outcome.Outcome as Outcome
 use Rattle.bp_thread.specs.contracts.origin.Origin as Origin
@@ -32,6 +34,14 @@ shared_send = Arc-send _ events_send events_sync
 requests_send : IsSend Requests.the_row
 requests_send = search (sendable, shared_send) depth 18
 
+-- ---- replies are shared
+
+reply_send : IsSend (Arc.the_row Event.the_row Heap.the_row ghosts)
+reply_send = Arc-send _ event_send event_sync
+
+replies_send : IsSend Replies.the_row
+replies_send = search (sendable, crosses, reply_send) depth 18
+
 -- ---- statements, outcomes and jobs
 
 statement_send : IsSend Statement.the_row
@@ -47,4 +57,4 @@ origin_send = variants_send Origin.enum (tt, ((search (sendable, mode.the_send),
 
 pub job_send : IsSend Job.the_row
 job_send = declared_send Job.the_type
-    (search (sendable, heap_send), (search sendable, (text_send, (origin_send, (events_send, (search (sendable, crosses, machine_send) depth 18, (effects_send, (search (sendable, value_send) depth 18, (search (sendable, outcome_send) depth 18, tt)))))))))
+    (search (sendable, heap_send), (search sendable, (text_send, (origin_send, (replies_send, (search (sendable, crosses, machine_send) depth 18, (effects_send, (search (sendable, value_send) depth 18, (search (sendable, outcome_send) depth 18, tt)))))))))

@@ -41,13 +41,6 @@ impl Events {
         self.items.as_slice()
     }
 
-    /// The events, given back.
-    pub fn into_vec(self) -> Vec<Event>
-        ensures { result.items ≡ self }
-    {
-        self.items
-    }
-
     /// One more event at the end. Its only error is out of memory, and then nothing has changed.
     pub fn push(&mut self, event: Event) -> Result<(), Memory>
         ensures ok { OnOk result (self.new ≡ self.old ++ event ∷ []) }

@@ -1,5 +1,6 @@
 //! Jobs: bodies that are carried on slice by slice, and stop at `bp.sync`.
 ghost use Rattle.std.specs.Prelude.{◌≡◌, ◌↔◌, ℕ, ◌++◌, ◌∷◌, [], List, map, option_map, IfOk, IfSome, OnOk, OnErr, IsErr, IsSome, IsTrue, None, Some, true, false};
+ghost use Rattle.std.specs.Arc.{arc_value};
 ghost use Rattle.js_value.specs.Views.{plain_value};
 ghost use Rattle.js_program.specs.PlainProgram.{PlainProgram};
 ghost use Rattle.js_meaning.specs.State as js;
@@ -11,17 +12,18 @@ ghost use Rattle.bp_meaning.specs.After.{after, handler as handler_set};
 ghost use Rattle.bp_thread.specs.Kept.{boxed, fits_outcome};
 ghost use Rattle.bp_thread.specs.Views.{plain_outcome, plain_origin};
 
-use crate::events::Events;
 use crate::keeping::{append, set_handler};
 use crate::origin::Origin;
 use crate::outcome::Outcome;
 use crate::pausing::outcome_at;
+use crate::replies::Replies;
 use js_data::{Event, Memory, Text};
 use js_frames::{Constants, Effects, Ground, Machine};
 use js_program::Mode;
 use js_value::{Items, Value};
 use std::alloc::{AllocError, Global};
 use std::mem;
+use std::sync::Arc;
 
 /// A body that is carried on slice by slice, with the events that it was given and what it did.
 ///
@@ -31,7 +33,7 @@ pub struct Job {
     number: u32,
     name: Text,
     origin: Origin,
-    replies: Events,
+    replies: Replies,
     /// Nothing after memory ran out. On the heap, so that a job that moves is small.
     machine: Option<Box<Machine>>,
     effects: Effects,
@@ -82,7 +84,7 @@ impl Job {
             number,
             name,
             origin,
-            replies: Events::new(alloc),
+            replies: Replies::new(alloc),
             machine: Some(machine),
             effects: Effects::new(alloc),
             handler: None,
@@ -157,9 +159,9 @@ impl Job {
         &self.name
     }
 
-    /// The events that it was given, in order.
-    pub fn replies(&self) -> &[Event]
-        ensures { result.now ≡ (plain_job self.now).replies }
+    /// The events that it was given, in order, each shared by all that were given it.
+    pub fn replies(&self) -> &[Arc<Event>]
+        ensures { map arc_value result.now ≡ (plain_job self.now).replies }
     {
         self.replies.as_slice()
     }
@@ -236,22 +238,22 @@ impl Job {
         }
     }
 
-    /// The event stands at the end of the replies, and the body goes on with it. Its only error is
-    /// out of memory, and then nothing has changed.
-    pub fn give(&mut self, event: &Event) -> Result<(), Memory>
+    /// The event stands at the end of the replies, and the body goes on with it; both share it. Its
+    /// only error is out of memory, also where a count of owners is full, and then nothing has changed.
+    pub fn give(&mut self, event: &Arc<Event>) -> Result<(), Memory>
         requires stopped { is_stopped (plain_job self.old).outcome ≡ true }
         requires taken { (plain_job self.old).effects ≡ [] }
         ensures program { (program : PlainProgram) → IsOf program self.old → IsOf program self.new }
         ensures given { OnOk result (plain_job self.new ≡ record (plain_job self.old) {
-          replies = (plain_job self.old).replies ++ event.now ∷ [];
+          replies = (plain_job self.old).replies ++ arc_value event.now ∷ [];
           outcome = None;
         }) }
         ensures fresh { (base : js.Ground) → (budget : ℕ) → StandsFor base budget self.old →
             OnOk result (IsFresh base budget self.new) }
         ensures err { OnErr result (self.new ≡ self.old) }
     {
-        let kept = event.copy()?;
-        let answer = event.copy()?;
+        let kept = event.clone()?;
+        let answer = event.clone()?;
         self.replies.push(kept)?;
         self.outcome = None;
         if let Some(machine) = &mut self.machine {

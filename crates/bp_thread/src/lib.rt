@@ -12,6 +12,7 @@ mod outcome;
 mod parts;
 mod pausing;
 mod reading;
+mod replies;
 mod requests;
 mod statement;
 

@@ -21,7 +21,6 @@ use Rattle.js_frames.specs.contracts.frame.Walk as Walk
 use Rattle.js_frames.specs.contracts.step.Completion as Completion
 use Rattle.js_frames.specs.contracts.ground.Ground as Ground
 use Rattle.js_frames.specs.contracts.machine.Machine as Machine
-use Rattle.js_frames.specs.contracts.machine.Pending as Pending
 use Rattle.js_frames.specs.contracts.slots.Slots as Slots
 use Rattle.js_frames.specs.contracts.step.Step as Step
 use Rattle.js_frames.specs.contracts.values.Values as Values
@@ -75,8 +74,5 @@ engine_send = declared_send Engine.the_type (search (sendable, heap_send), (sear
 step_send : IsSend Step.the_row
 step_send = search (sendable, completion_send, text_send, value_send, fault.the_send) depth 40 fits 20000
 
-pending_send : IsSend Pending.the_row
-pending_send = variants_send Pending.enum ((step_send, tt), ((event_send, tt), tt))
-
 pub machine_send : IsSend Machine.the_row
-machine_send = declared_send Machine.the_type (engine_send, (search (sendable, pending_send) depth 18, tt))
+machine_send = declared_send Machine.the_type (engine_send, (search (sendable, step_send) depth 18, tt))

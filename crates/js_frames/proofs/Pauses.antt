@@ -2,6 +2,9 @@
 use Rattle.std.proofs.lemmas.Bool.{false≢true}
 use Rattle.std.specs.Prelude.{nat_lt, IsSome, OnErr}
 use Rattle.std.proofs.Common.{inl, inr, Bool, true, false, cond, ◌≡◌, ℕ, zero, suc, ◌+◌, ◌≤◌, List, [], ◌∷◌, ◌++◌, length, Option, Some, None, Result, Ok, Err, refl, sym, ap, ◌∙◌, subst, arith, append_assoc, append-nil}
+use Rattle.std.specs.Arc.{arc_value}
+use Rattle.std.specs.declared.sync.Arc.{Arc}
+use Rattle.std.specs.declared.alloc.Global.{Global}
 use Rattle.js_data.specs.Event.{PlainEvent}
 use Rattle.js_data.specs.declared.fault.Fault.{Fault}
 use Rattle.js_data.specs.declared.fault.Fault.TheVariants as fault
@@ -10,6 +13,7 @@ use Rattle.js_value.specs.Value.{PlainValue}
 use Rattle.js_value.specs.Lists.{values_in}
 use Rattle.js_value.specs.Views.{plain_value}
 use Rattle.js_value.specs.declared.value.Value.{Value}
+use Rattle.js_value.specs.declared.value.Value.TheVariants as value
 use Rattle.js_program.specs.PlainProgram.{PlainProgram}
 use Rattle.js_meaning.specs.State as js
 use Rattle.js_meaning.specs.State.{State, Setting, Left, left_of, left_by, Outcome, went, normal, broken, violated, spent, stopped, spends, breaks}
@@ -22,8 +26,6 @@ use Rattle.js_frames.specs.declared.step.Completion.{Completion}
 use Rattle.js_frames.specs.declared.step.Completion.TheVariants.{Normal, Broke, Continued, Returned}
 use Rattle.js_frames.specs.declared.step.Step.{Step}
 use Rattle.js_frames.specs.declared.step.Step.TheVariants.{Begin, Give, Ask, Fail, Violate}
-use Rattle.js_frames.specs.declared.machine.Pending.{Pending}
-use Rattle.js_frames.specs.declared.machine.Pending.TheVariants.{Next, Resumed}
 use Rattle.js_frames.specs.declared.frame.Frame.{Frame}
 use Rattle.js_frames.specs.declared.frame.Frame.TheVariants.{Waiting, Iterating, Called}
 use Rattle.js_frames.specs.declared.machine.Pause.{Pause}
@@ -35,7 +37,7 @@ use Rattle.js_frames.specs.Frames.{plain_completion, resume, plug, step_outcome,
 use Rattle.js_frames.specs.inner.Leads.{Leads, IsSettled, IsHeld, Advanced, node_does}
 use Rattle.js_frames.specs.Fits.{StackFits, StepFits}
 use Rattle.js_frames.proofs.Fuel.{node_leaves}
-use Rattle.js_frames.specs.Runs.{PendingFits, IsOfProgram, Stands, untaken, asked_at, answer_at, asked_by, line_asked, answer_by, constants_by, Answers, Says, IsReached, Runs, pause_of, if_zero, pending_outcome, future_of}
+use Rattle.js_frames.specs.Runs.{IsOfProgram, Stands, untaken, asked_at, answer_at, asked_by, line_asked, answer_by, constants_by, Answers, Says, IsReached, Runs, pause_of, if_zero}
 
 -- what is over passes by all frames
 module _ (g : Setting) where
@@ -154,7 +156,7 @@ module _ (base : js.Ground) (m : Engine) (o : Outcome) (gives_value : (c : js.Co
   reached_by : (q : Outcome) → o ≡ q → (left_by q).fuel ≡ m.fuel → (left_by o).fuel + (begun + more) ≡ budget
   reached_by q is left = ap (λ r. (left_by r).fuel + (begun + more)) is ∙ ap (λ k. k + (begun + more)) left ∙ fuel
 
-  says_begin : (n f : ℕ) → Comes (Begin n) → m.fuel ≡ f → IsHeld (Begin n) m.fuel more nodes → Says (if_zero f pause.Spent pause.More) o begun more nodes budget (taken ++ plain_effects m.effects) (record { engine = m; pending = Some (Next (Begin n)) })
+  says_begin : (n f : ℕ) → Comes (Begin n) → m.fuel ≡ f → IsHeld (Begin n) m.fuel more nodes → Says (if_zero f pause.Spent pause.More) o begun more nodes budget (taken ++ plain_effects m.effects) (record { engine = m; pending = Some (Begin n) })
   says_begin n zero eq f held = record { left = record (left_of at) { fuel = 0 }; is = is_spent n eq f; made = refl; all = omega arith }
   says_begin n (suc k) eq f held =
       let whole : more ≡ nodes = elim held [ inl e ↦ absurd (omega arith) | inr e ↦ e ] in
@@ -165,14 +167,14 @@ module _ (base : js.Ground) (m : Engine) (o : Outcome) (gives_value : (c : js.Co
   reaches_begin n zero eq f = reached_by _ (is_spent n eq f) (sym f)
   reaches_begin n (suc k) eq f = tt
 
-  says_value : (c : Completion) (x : PlainValue) → plain_completion c ≡ normal x → o ≡ went (plain_completion c) at → Answers o (taken ++ plain_effects m.effects) (record { engine = m; pending = Some (Next (Give c)) })
+  says_value : (c : Completion) (x : PlainValue) → plain_completion c ≡ normal x → o ≡ went (plain_completion c) at → Answers o (taken ++ plain_effects m.effects) (record { engine = m; pending = Some (Give c) })
   unfolding answer_by constants_by
   says_value (Normal y) x e h = record { answer = plain_value y; state = at; is = h; answered = refl; constants = refl; made = refl }
   says_value Broke x e h = cc
   says_value Continued x e h = cc
   says_value (Returned y) x e h = cc
 
-  pub says : (last : Step) → Comes last → IsHeld last m.fuel more nodes → IsSettled last m.stack.items → Says (pause_of m.fuel last) o begun more nodes budget (taken ++ plain_effects m.effects) (record { engine = m; pending = Some (Next last) })
+  pub says : (last : Step) → Comes last → IsHeld last m.fuel more nodes → IsSettled last m.stack.items → Says (pause_of m.fuel last) o begun more nodes budget (taken ++ plain_effects m.effects) (record { engine = m; pending = Some last })
   unfolding asked_by line_asked
   says (Begin n) eq held settled = says_begin n m.fuel eq refl held
   says (Give c) eq held settled =
@@ -192,30 +194,27 @@ module _ (base : js.Ground) (m : Engine) (o : Outcome) (gives_value : (c : js.Co
   reaches (Violate text) eq settled = reached_by _ (is_violated text eq) refl
 
 -- the step to come is the one that is pending
-same_next : (m : Option Pending) (a b : Pending) → m ≡ Some a → m ≡ Some b → a ≡ b
+same_next : (m : Option Step) (a b : Step) → m ≡ Some a → m ≡ Some b → a ≡ b
 same_next m a b e f = cc
 
 -- a machine that stands for a body still does so after a run
-pub runs_on : (base : js.Ground) (old : Machine) (new : Engine) (next : Pending) (step last : Step) (nodes more : ℕ) → old.pending ≡ Some next → ((g : Setting) (s : State) → step_outcome g step s ≡ pending_outcome g next s) → Advanced base (place_of old.engine) step (place_of new) last nodes more → (budget : ℕ) (o : Origin) (replies : List PlainEvent) (begun : ℕ) (taken : List js.Effect) → Stands base budget o replies begun taken old → Runs base budget o replies begun taken nodes (pause_of new.fuel last) (record { engine = new; pending = Some (Next last) })
+pub runs_on : (base : js.Ground) (old : Machine) (new : Engine) (step last : Step) (nodes more : ℕ) → old.pending ≡ Some step → Advanced base (place_of old.engine) step (place_of new) last nodes more → (budget : ℕ) (o : Origin) (replies : List PlainEvent) (begun : ℕ) (taken : List js.Effect) → Stands base budget o replies begun taken old → Runs base budget o replies begun taken nodes (pause_of new.fuel last) (record { engine = new; pending = Some last })
 unfolding Stands untaken future
-runs_on base old new next step last nodes more pending steps a budget o replies begun taken h =
-    let is = same_next old.pending h.next next h.is_next pending in
+runs_on base old new step last nodes more pending a budget o replies begun taken h =
+    let is = same_next old.pending h.next step h.is_next pending in
     let r = a.ran in
     let f = r.fuel in
     let k = h.fuel in
     let b = r.same_budget in
     let comes : (later : List PlainEvent) → future base (place_of new) last (record { taken = taken; delivered = h.delivered; replies = later }) ≡ evaluation base budget o (replies ++ later) =
     λ later. let beside_it : Beside = record { taken = taken; delivered = h.delivered; replies = later } in
-    r.same beside_it
-    ∙ ap (plug (setting_at base (place_of old.engine)) old.engine.stack.items) (steps (setting_at base (place_of old.engine)) (state_at (place_of old.engine) beside_it))
-    ∙ ap (λ q. future_of base (place_of old.engine) q beside_it) (sym is)
-    ∙ h.comes later in
+    r.same beside_it ∙ ap (λ q. future base (place_of old.engine) q beside_it) (sym is) ∙ h.comes later in
     let now_comes : future base (place_of new) last (beside taken h.delivered) ≡ evaluation base budget o replies = comes [] ∙ ap (evaluation base budget o) (append-nil replies) in
     record {
       more = more;
       few = a.few;
       stands = record {
-        next = Next last;
+        next = last;
         is_next = refl;
         delivered = h.delivered;
         comes = comes;
@@ -228,7 +227,7 @@ runs_on base old new next step last nodes more pending steps a budget o replies 
     }
 
 -- a machine that starts stands for its body
-pub started : (base : js.Ground) (budget : ℕ) (o : Origin) (engine new : Engine) (step : Step) → place_of engine ≡ fresh (mode_of o) budget (own_constants base o) → Leads base (place_of engine) (runs_body (setting_at base (place_of engine)) (eval (setting_at base (place_of engine))) o) (place_of new) step → Stands base budget o [] 0 [] (record { engine = new; pending = Some (Next step) })
+pub started : (base : js.Ground) (budget : ℕ) (o : Origin) (engine new : Engine) (step : Step) → place_of engine ≡ fresh (mode_of o) budget (own_constants base o) → Leads base (place_of engine) (runs_body (setting_at base (place_of engine)) (eval (setting_at base (place_of engine))) o) (place_of new) step → Stands base budget o [] 0 [] (record { engine = new; pending = Some step })
 unfolding Stands future plug evaluation
 started base budget o engine new step e l0 =
     let l = subst (λ q. Leads base q (runs_body (setting_at base q) (eval (setting_at base q)) o) (place_of new) step) e l0 in
@@ -236,7 +235,7 @@ started base budget o engine new step e l0 =
     let less : new.fuel ≤ budget = l.within.less in
     let least : budget ≤ new.fuel = l.within.above (omega arith) in
     record {
-      next = Next step;
+      next = step;
       is_next = refl;
       delivered = 0;
       comes = λ later. l.same (record { taken = []; delivered = 0; replies = later });
@@ -246,17 +245,20 @@ started base budget o engine new step e l0 =
     }
 
 -- what is asked is pending
-pub what_asks : (q : Pending) → IsSome (asked_at (Some q)) → (s : Value) × (p : Value) × (line : ℕ) × (q ≡ Next (Ask s p line))
-what_asks (Next (Ask s p line)) i = (s, p, line, refl)
-what_asks (Next (Begin n)) i = absurd (false≢true i)
-what_asks (Next (Give c)) i = absurd (false≢true i)
-what_asks (Next (Fail f line)) i = absurd (false≢true i)
-what_asks (Next (Violate t)) i = absurd (false≢true i)
-what_asks (Resumed event) i = absurd (false≢true i)
+pub what_asks : (q : Step) → IsSome (asked_at (Some q)) → (s : Value) × (p : Value) × (line : ℕ) × (q ≡ Ask s p line)
+what_asks (Ask s p line) i = (s, p, line, refl)
+what_asks (Begin n) i = absurd (false≢true i)
+what_asks (Give c) i = absurd (false≢true i)
+what_asks (Fail f line) i = absurd (false≢true i)
+what_asks (Violate t) i = absurd (false≢true i)
+
+-- the step that gives the event
+abbrev pub answered : Arc PlainEvent Global → Step
+answered event = Give (Normal (value.Event event))
 
 -- a machine that is resumed stands for the body with one reply more
-pub resumed : (old : Machine) (new : Engine) (event : PlainEvent) → IsSome (asked_by old) → place_of new ≡ record (place_of old.engine) { fuel = old.engine.budget } → (base : js.Ground) (budget : ℕ) (o : Origin) (replies : List PlainEvent) (begun : ℕ) (taken : List js.Effect) → Stands base budget o replies begun taken old → Stands base budget o (replies ++ event ∷ []) 0 taken (record { engine = new; pending = Some (Resumed event) })
-unfolding Stands step_outcome asked_by
+pub resumed : (old : Machine) (new : Engine) (event : Arc PlainEvent Global) → IsSome (asked_by old) → place_of new ≡ record (place_of old.engine) { fuel = old.engine.budget } → (base : js.Ground) (budget : ℕ) (o : Origin) (replies : List PlainEvent) (begun : ℕ) (taken : List js.Effect) → Stands base budget o replies begun taken old → Stands base budget o (replies ++ arc_value event ∷ []) 0 taken (record { engine = new; pending = Some (answered event) })
+unfolding Stands future step_outcome asked_by
 resumed old new event asking e base budget o replies begun taken h =
     let b = ap (λ (q : Place). q.budget) e in
     let m = ap (λ (q : Place). q.mode) e in
@@ -265,13 +267,13 @@ resumed old new event asking e base budget o replies begun taken h =
     let w = what_asks h.next at in
     let total = length (taken ++ plain_effects old.engine.effects) in
     record {
-      next = Resumed event;
+      next = answered event;
       is_next = refl;
       delivered = total;
-      comes = λ later. ap (λ q. future_of base q (Resumed event) (record { taken = taken; delivered = total; replies = later })) e
-          ∙ ap (λ q. future_of base (place_of old.engine) q (record { taken = taken; delivered = h.delivered; replies = event ∷ later })) (sym w.3)
-          ∙ h.comes (event ∷ later)
-          ∙ ap (evaluation base budget o) (sym (append_assoc replies (event ∷ []) later));
+      comes = λ later. ap (λ q. future base q (answered event) (record { taken = taken; delivered = total; replies = later })) e
+          ∙ ap (λ q. future base (place_of old.engine) q (record { taken = taken; delivered = h.delivered; replies = arc_value event ∷ later })) (sym w.3)
+          ∙ h.comes (arc_value event ∷ later)
+          ∙ ap (evaluation base budget o) (sym (append_assoc replies (arc_value event ∷ []) later));
       budget_is = b ∙ h.budget_is;
       mode_is = m ∙ h.mode_is;
       fuel = let k : old.engine.budget ≡ budget = h.budget_is in omega arith;
@@ -279,7 +281,7 @@ resumed old new event asking e base budget o replies begun taken h =
 
 -- taking the effects changes nothing else
 pub effects_taken : (old : Machine) (new : Engine) (effects : List js.Effect) → effects ≡ plain_effects old.engine.effects → place_of new ≡ record (place_of old.engine) { effects = [] } → (base : js.Ground) (budget : ℕ) (o : Origin) (replies : List PlainEvent) (begun : ℕ) (taken : List js.Effect) → Stands base budget o replies begun taken old → Stands base budget o replies begun (taken ++ effects) (record { engine = new; pending = old.pending })
-unfolding Stands
+unfolding Stands future
 effects_taken old new effects same e base budget o replies begun taken h =
     let b = ap (λ (q : Place). q.budget) e in
     let m = ap (λ (q : Place). q.mode) e in
@@ -289,8 +291,8 @@ effects_taken old new effects same e base budget o replies begun taken h =
       next = h.next;
       is_next = h.is_next;
       delivered = h.delivered;
-      comes = λ later. ap (λ q. future_of base q h.next (record { taken = taken ++ effects; delivered = h.delivered; replies = later })) e
-          ∙ ap (λ es. plug (setting_at base (place_of old.engine)) old.engine.stack.items (pending_outcome (setting_at base (place_of old.engine)) h.next (record (state_at (place_of old.engine) (record { taken = taken; delivered = h.delivered; replies = later })) { effects = es })))
+      comes = λ later. ap (λ q. future base q h.next (record { taken = taken ++ effects; delivered = h.delivered; replies = later })) e
+          ∙ ap (λ es. plug (setting_at base (place_of old.engine)) old.engine.stack.items (step_outcome (setting_at base (place_of old.engine)) h.next (record (state_at (place_of old.engine) (record { taken = taken; delivered = h.delivered; replies = later })) { effects = es })))
           (append-nil (taken ++ effects) ∙ ap (λ es. taken ++ es) same)
           ∙ h.comes later;
       budget_is = b ∙ h.budget_is;
@@ -298,18 +300,18 @@ effects_taken old new effects same e base budget o replies begun taken h =
       fuel = omega arith;
     }
 
-pub of_program_resumed : (old : Machine) (new : Engine) (event : PlainEvent) → IsSome (asked_by old) → place_of new ≡ record (place_of old.engine) { fuel = old.engine.budget } → (program : PlainProgram) → IsOfProgram program old → IsOfProgram program (record { engine = new; pending = Some (Resumed event) })
+pub of_program_resumed : (old : Machine) (new : Engine) (event : Arc PlainEvent Global) → IsSome (asked_by old) → place_of new ≡ record (place_of old.engine) { fuel = old.engine.budget } → (program : PlainProgram) → IsOfProgram program old → IsOfProgram program (record { engine = new; pending = Some (answered event) })
 unfolding IsOfProgram asked_by
 of_program_resumed old new event asking e program h = found old.pending asking (λ next. h next)
   where
-    found : (o : Option Pending) → IsSome (asked_at o) → ((next : Pending) → o ≡ Some next → StackFits program old.engine.stack.items × PendingFits program next) → (next : Pending) → Some (Resumed event) ≡ Some next → StackFits program new.stack.items × PendingFits program next
+    found : (o : Option Step) → IsSome (asked_at o) → ((next : Step) → o ≡ Some next → StackFits program old.engine.stack.items × StepFits program next) → (next : Step) → Some (answered event) ≡ Some next → StackFits program new.stack.items × StepFits program next
     found None i k next is = absurd (false≢true i)
     found (Some q) i k next is =
-        let same : Resumed event ≡ next = cc in
-        (subst (λ (p : Place). StackFits program p.stack) (sym e) (k q refl).0, subst (PendingFits program) same tt)
+        let same : answered event ≡ next = cc in
+        (subst (λ (p : Place). StackFits program p.stack) (sym e) (k q refl).0, subst (StepFits program) same tt)
 
 -- at `bp.sync` something is asked
-pub asks_at : (new : Engine) (last : Step) (stop : Pause) → stop ≡ pause_of new.fuel last → stop ≡ pause.AtSync → IsSome (asked_by (record { engine = new; pending = Some (Next last) }))
+pub asks_at : (new : Engine) (last : Step) (stop : Pause) → stop ≡ pause_of new.fuel last → stop ≡ pause.AtSync → IsSome (asked_by (record { engine = new; pending = Some last }))
 unfolding asked_by
 asks_at new (Begin n) stop e h = absurd (never new.fuel (sym e ∙ h))
   where
@@ -321,14 +323,14 @@ asks_at new (Ask s p line) stop e h = refl
 asks_at new (Fail f line) stop e h = cc
 asks_at new (Violate t) stop e h = cc
 
-pub of_program_started : (program : PlainProgram) (new : Engine) (step : Step) → StackFits program new.stack.items → StepFits program step → IsOfProgram program (record { engine = new; pending = Some (Next step) })
+pub of_program_started : (program : PlainProgram) (new : Engine) (step : Step) → StackFits program new.stack.items → StepFits program step → IsOfProgram program (record { engine = new; pending = Some step })
 unfolding IsOfProgram
 of_program_started program new step fits step_fits = λ next e.
-    let same : Next step ≡ next = cc in
-    (fits, subst (PendingFits program) same step_fits)
+    let same : step ≡ next = cc in
+    (fits, subst (StepFits program) same step_fits)
 
 -- only a step at `bp.sync` asks
-pub asks_only : (q : Step) → IsSome (asked_at (Some (Next q))) → ((x : Value) (y : Value) (line : ℕ) → q ≡ Ask x y line → ⊥) → ⊥
+pub asks_only : (q : Step) → IsSome (asked_at (Some q)) → ((x : Value) (y : Value) (line : ℕ) → q ≡ Ask x y line → ⊥) → ⊥
 asks_only (Begin n) h k = false≢true h
 asks_only (Give c) h k = false≢true h
 asks_only (Ask x y line) h k = k x y line refl
@@ -336,14 +338,14 @@ asks_only (Fail f line) h k = false≢true h
 asks_only (Violate t) h k = false≢true h
 
 -- only what completes answers
-pub completes_only : (q : Step) → IsSome (answer_at (Some (Next q))) → ((c : Completion) → q ≡ Give c → ⊥) → ⊥
+pub completes_only : (q : Step) → IsSome (answer_at (Some q)) → ((c : Completion) → q ≡ Give c → ⊥) → ⊥
 completes_only (Begin n) h k = false≢true h
 completes_only (Give c) h k = k c refl
 completes_only (Ask x y line) h k = false≢true h
 completes_only (Fail f line) h k = false≢true h
 completes_only (Violate t) h k = false≢true h
 
-pub answers_only : (c : Completion) → IsSome (answer_at (Some (Next (Give c)))) → ((x : Value) → c ≡ Normal x → ⊥) → ⊥
+pub answers_only : (c : Completion) → IsSome (answer_at (Some (Give c))) → ((x : Value) → c ≡ Normal x → ⊥) → ⊥
 answers_only (Normal x) h k = k x refl
 answers_only Broke h k = false≢true h
 answers_only Continued h k = false≢true h

@@ -1,58 +1,40 @@
 -- What a machine stands for.
 use Rattle.std.specs.Prelude.{◌≡◌, ℕ, zero, suc, ◌+◌, ◌<◌, ◌≤◌, List, [], ◌++◌, Option, Some, None, unwrap_or}
 use Rattle.js_data.specs.Event.{PlainEvent}
-use Rattle.js_value.specs.Value as v
 use Rattle.js_value.specs.Value.{PlainValue}
 use Rattle.js_value.specs.Views.{plain_value}
 use Rattle.js_program.specs.PlainProgram.{PlainProgram}
-use Rattle.js_meaning.specs.State.{Ground, Setting, Effect, State, Left, left_by, Outcome, gives, normal, went, broken, violated, spent, stopped}
+use Rattle.js_meaning.specs.State.{Ground, Effect, State, Left, left_by, Outcome, normal, went, broken, violated, spent, stopped}
 use Rattle.js_meaning.specs.Bodies.{Origin, mode_of, evaluation}
 use Rattle.js_frames.specs.declared.step.Completion.TheVariants.{Normal}
 use Rattle.js_frames.specs.declared.step.Step.{Step}
 use Rattle.js_frames.specs.declared.step.Step.TheVariants.{Begin, Give, Ask, Fail, Violate}
-use Rattle.js_frames.specs.declared.machine.Pending.{Pending}
-use Rattle.js_frames.specs.declared.machine.Pending.TheVariants.{Next, Resumed}
 use Rattle.js_frames.specs.declared.machine.Pause.{Pause}
 use Rattle.js_frames.specs.declared.machine.Pause.TheVariants as pause
 use Rattle.js_frames.specs.declared.machine.Machine.{Machine}
-use Rattle.js_frames.specs.Places.{Place, Beside, plain_effects, place_of, setting_at, state_at}
-use Rattle.js_frames.specs.Frames.{plug, step_outcome}
+use Rattle.js_frames.specs.Places.{plain_effects, place_of}
+use Rattle.js_frames.specs.Frames.{future}
 use Rattle.js_frames.specs.Fits.{StackFits, StepFits}
 
--- what is pending is of the program
-abbrev pub PendingFits : PlainProgram → Pending → Type 0
-PendingFits program (Next step) = StepFits program step
-PendingFits program (Resumed event) = Unit {0}
-
--- a machine of the program: its stack and what is pending are, if anything is pending
+-- a machine of the program: its stack and the step to come are, if one is to come
 unfoldable pub IsOfProgram : PlainProgram → Machine → Type 0
 IsOfProgram program m =
-    (next : Pending) → m.pending ≡ Some next →
-    StackFits program m.engine.stack.items × PendingFits program next
+    (next : Step) → m.pending ≡ Some next →
+    StackFits program m.engine.stack.items × StepFits program next
 
--- nothing is pending: it has been given nothing to do yet, or memory ran out
+-- no step is to come: it has been given nothing to do yet, or memory ran out
 unfoldable pub IsLost : Machine → Type 0
 IsLost m = m.pending ≡ None
-
--- what comes of what is pending
-abbrev pub pending_outcome : Setting → Pending → State → Outcome
-pending_outcome g (Next step) s = step_outcome g step s
-pending_outcome g (Resumed event) s = gives (v.event event) s
-
--- what a machine comes to that stands there
-abbrev pub future_of : Ground → Place → Pending → Beside → Outcome
-future_of base m next beside =
-    plug (setting_at base m) m.stack (pending_outcome (setting_at base m) next (state_at m beside))
 
 -- whatever replies come later, the machine comes to the outcome of the body with all the replies
 pub record Coming (base : Ground) (budget : ℕ) (o : Origin) (replies : List PlainEvent) (begun : ℕ)
     (taken : List Effect) (m : Machine) : Type 0 where
-  pub next : Pending
+  pub next : Step
   pub is_next : m.pending ≡ Some next
   -- how many effects came before the last reply
   pub delivered : ℕ
   pub comes : (later : List PlainEvent) →
-      future_of base (place_of m.engine) next
+      future base (place_of m.engine) next
       (record { taken = taken; delivered = delivered; replies = later })
       ≡ evaluation base budget o (replies ++ later)
   pub budget_is : m.engine.budget ≡ budget
@@ -68,27 +50,27 @@ Stands base budget o replies begun taken m = Coming base budget o replies begun 
 unfoldable pub untaken : Machine → List Effect
 untaken m = plain_effects m.engine.effects
 
-abbrev pub asked_at : Option Pending → Option (PlainValue × PlainValue)
-asked_at (Some (Next (Ask s p line))) = Some (plain_value s, plain_value p)
+abbrev pub asked_at : Option Step → Option (PlainValue × PlainValue)
+asked_at (Some (Ask s p line)) = Some (plain_value s, plain_value p)
 asked_at _ = None
 
 -- the statement and the priority that `bp.sync` asks
 unfoldable pub asked_by : Machine → Option (PlainValue × PlainValue)
 asked_by m = asked_at m.pending
 
-abbrev pub line_at : Option Pending → Option ℕ
-line_at (Some (Next (Ask s p line))) = Some line
+abbrev pub line_at : Option Step → Option ℕ
+line_at (Some (Ask s p line)) = Some line
 line_at _ = None
 
 -- the line of the `bp.sync` that asks
 unfoldable pub line_asked : Machine → Option ℕ
 line_asked m = line_at m.pending
 
-abbrev pub answer_at : Option Pending → Option PlainValue
-answer_at (Some (Next (Give (Normal x)))) = Some (plain_value x)
+abbrev pub answer_at : Option Step → Option PlainValue
+answer_at (Some (Give (Normal x))) = Some (plain_value x)
 answer_at _ = None
 
--- what the body answers, at its end
+-- the value with which the step to come goes on: where the body is at its end, what it answers
 unfoldable pub answer_by : Machine → Option PlainValue
 answer_by m = answer_at m.pending
 

@@ -1,14 +1,13 @@
 //! The machine.
 ghost use Rattle.std.specs.Prelude.{◌≡◌, ℕ, ◌++◌, ◌∷◌, [], List, map, IfOk, OnOk, OnErr, IsErr, IsSome, Some};
+ghost use Rattle.std.specs.Arc.{arc_value};
 ghost use Rattle.js_data.specs.Event.{PlainEvent};
 ghost use Rattle.js_value.specs.Views.{plain_value};
 ghost use Rattle.js_program.specs.PlainProgram.{PlainProgram};
 ghost use Rattle.js_meaning.specs.State as js;
 ghost use Rattle.js_meaning.specs.Bodies.{Origin, the_top, function};
 ghost use Rattle.js_frames.specs.Places.{plain_ground, plain_effects};
-ghost use Rattle.js_frames.specs.Runs.{IsOfProgram, IsLost, Stands, Runs, untaken, asked_by, line_asked, answer_by, constants_by, pause_of, PendingFits, pending_outcome};
-ghost use Rattle.js_frames.specs.Frames.{step_outcome};
-ghost use Rattle.js_frames.specs.Fits.{StepFits};
+ghost use Rattle.js_frames.specs.Runs.{IsOfProgram, IsLost, Stands, Runs, untaken, asked_by, line_asked, answer_by, constants_by, pause_of};
 
 use crate::effect::Effects;
 use crate::engine::Engine;
@@ -18,8 +17,9 @@ use crate::step::{Completion, Step, give};
 use crate::values::Values;
 use js_data::{Event, Fault, Memory, Text};
 use js_program::Mode;
-use js_value::{Value, copy, event_value};
+use js_value::{Value, copy};
 use std::alloc::{AllocError, Global};
+use std::sync::Arc;
 
 /// Why a machine stops.
 #[derive(Drop)]
@@ -38,45 +38,11 @@ pub enum Pause {
     Spent,
 }
 
-/// What a machine goes on with.
-pub(crate) enum Pending {
-    /// A step.
-    Next(Step),
-    /// The event that `bp.sync` answers.
-    Resumed(Event),
-}
-
-impl Drop for Pending {
-    fn drop(self) {
-        match self {
-            Pending::Next(_) => {}
-            Pending::Resumed(_) => {}
-        }
-    }
-}
-
-impl Pending {
-    /// The step by which a machine goes on.
-    fn step(self, alloc: Global) -> Result<Step, Memory>
-        ensures same { (g : js.Setting) (s : js.State) →
-            IfOk result (λ step. step_outcome g step s ≡ pending_outcome g self s) }
-        ensures fits { (program : PlainProgram) →
-            PendingFits program self → IfOk result (StepFits program) }
-    {
-        match self {
-            Pending::Next(step) => Ok(step),
-            Pending::Resumed(event) => {
-                let value = event_value(alloc, event)?;
-                Ok(give(value))
-            }
-        }
-    }
-}
-
 /// A machine, which runs the top level or a call of a function in slices.
 pub struct Machine {
     engine: Engine,
-    pending: Option<Pending>,
+    /// The step that comes next; nothing where it was given nothing to do yet, or memory ran out.
+    pending: Option<Step>,
 }
 
 impl Drop for Machine {
@@ -113,7 +79,7 @@ impl Machine {
         let step = engine.begin_top(base)?;
         Ok(Machine {
             engine,
-            pending: Some(Pending::Next(step)),
+            pending: Some(step),
         })
     }
 
@@ -168,7 +134,7 @@ impl Machine {
         push_copies(&mut values, args)?;
         let function = copy(callee)?;
         let step = self.engine.call(base, 0, function, values)?;
-        self.pending = Some(Pending::Next(step));
+        self.pending = Some(step);
         Ok(())
     }
 
@@ -186,13 +152,12 @@ impl Machine {
         ensures lost { OnErr result (IsLost self.new) }
         ensures stays_lost { IsLost self.old → IsErr result }
     {
-        let Some(next) = self.pending.take() else {
+        let Some(step) = self.pending.take() else {
             return Err(AllocError);
         };
-        let step = next.step(self.engine.alloc)?;
         let last = self.engine.advance(base, step, nodes)?;
         let pause = pause_at(self.engine.fuel, &last)?;
-        self.pending = Some(Pending::Next(last));
+        self.pending = Some(last);
         Ok(pause)
     }
 
@@ -202,12 +167,9 @@ impl Machine {
         ensures { asked_by self.now ≡ Some (plain_value result.0.now, plain_value result.1.now) }
     {
         match &self.pending {
-            Some(next) => match next {
-                Pending::Next(step) => match step {
-                    Step::Ask(statement, priority, _) => (statement, priority),
-                    _ => unreachable!(),
-                },
-                Pending::Resumed(_) => unreachable!(),
+            Some(step) => match step {
+                Step::Ask(statement, priority, _) => (statement, priority),
+                _ => unreachable!(),
             },
             None => unreachable!(),
         }
@@ -219,39 +181,33 @@ impl Machine {
         ensures { line_asked self.now ≡ Some result }
     {
         match &self.pending {
-            Some(next) => match next {
-                Pending::Next(step) => match step {
-                    Step::Ask(_, _, line) => *line,
-                    _ => unreachable!(),
-                },
-                Pending::Resumed(_) => unreachable!(),
+            Some(step) => match step {
+                Step::Ask(_, _, line) => *line,
+                _ => unreachable!(),
             },
             None => unreachable!(),
         }
     }
 
-    /// What the body answers, at its end.
+    /// The value with which the next step goes on: at the body's end, what it answers.
     pub fn answer(&self) -> &Value
         requires { IsSome (answer_by self.now) }
         ensures { answer_by self.now ≡ Some (plain_value result.now) }
     {
         match &self.pending {
-            Some(next) => match next {
-                Pending::Next(step) => match step {
-                    Step::Give(completion) => match completion {
-                        Completion::Normal(value) => value,
-                        _ => unreachable!(),
-                    },
+            Some(step) => match step {
+                Step::Give(completion) => match completion {
+                    Completion::Normal(value) => value,
                     _ => unreachable!(),
                 },
-                Pending::Resumed(_) => unreachable!(),
+                _ => unreachable!(),
             },
             None => unreachable!(),
         }
     }
 
-    /// The event is the value of the `bp.sync`, and the budget is whole again.
-    pub fn resume(&mut self, event: Event)
+    /// The event is the value of the `bp.sync`, which shares it, and the budget is whole again.
+    pub fn resume(&mut self, event: Arc<Event>)
         requires { IsSome (asked_by self.old) }
         ensures program { (program : PlainProgram) →
             IsOfProgram program self.old → IsOfProgram program self.new }
@@ -259,10 +215,10 @@ impl Machine {
         ensures stands { (base : js.Ground) → (budget : ℕ) → (o : Origin) →
             (replies : List PlainEvent) → (begun : ℕ) → (taken : List js.Effect) →
             Stands base budget o replies begun taken self.old →
-            Stands base budget o (replies ++ event ∷ []) 0 taken self.new }
+            Stands base budget o (replies ++ arc_value event ∷ []) 0 taken self.new }
     {
         self.engine.refill();
-        self.pending = Some(Pending::Resumed(event));
+        self.pending = Some(give(Value::Event(event)));
     }
 
     /// The effects since the last taking, in order.

@@ -11,6 +11,7 @@ use js_json::event_text;
 use js_program::Mode;
 use js_value::{EventSet, SetTree, Value};
 use std::alloc::{AllocError, Global};
+use std::sync::Arc;
 use std::test::Fail;
 
 /// The budget of every run.
@@ -134,7 +135,7 @@ fn body_run(alloc: Global, script: &str, mode: Mode, nodes: u64) -> Result<Strin
         let Pause::AtSync = pause else {
             return Ok(out);
         };
-        machine.resume(event(alloc, "e")?);
+        machine.resume(Arc::new(alloc, event(alloc, "e")?)?);
     }
     Ok(out)
 }
@@ -199,8 +200,7 @@ fn event_answered(alloc: Global, ground: &Ground, machine: &mut Machine) -> Resu
     let Pause::AtSync = stop else {
         return Err("no stop")?;
     };
-    let reply = event(alloc, "e")?;
-    machine.resume(reply);
+    machine.resume(Arc::new(alloc, event(alloc, "e")?)?);
     let end = machine.run(ground, BUDGET)?;
     let Pause::Ended = end else {
         return Err("no end")?;

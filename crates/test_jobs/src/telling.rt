@@ -12,6 +12,7 @@ use js_frames::{Effect, Effects, Ground};
 use js_json::event_text;
 use js_value::EventSet;
 use std::alloc::{AllocError, Global};
+use std::sync::Arc;
 use std::test::Fail;
 
 /// The events that a b-thread gets, one at each stop.
@@ -158,6 +159,14 @@ fn has_replies(lines: Lines) -> bool {
     !matches!(lines, Lines::Sets | Lines::Statements)
 }
 
+/// Whether the last event that the job was given has this name.
+fn is_last(job: &Job, name: &str) -> bool {
+    match job.replies().last() {
+        None => false,
+        Some(event) => event.name().as_str() == name,
+    }
+}
+
 /// What the job does, in slices of this many nodes: up to its first stop, or to its end or its last event.
 pub fn told_by(
     alloc: Global,
@@ -178,7 +187,10 @@ pub fn told_by(
         if !is_stopped(job) {
             break;
         }
-        job.give(&event(alloc, name)?)?;
+        job.give(&Arc::new(alloc, event(alloc, name)?)?)?;
+        if !is_last(job, name) {
+            return Err("another event is the last that the job was given")?;
+        }
         out.push_str("; ")?;
         push_slices(&mut out, alloc, ground, lines, job, nodes)?;
     }

@@ -8,7 +8,7 @@ use Rattle.bp_floor.proofs.board.Board.put_back.Goals as goal
 
 pub loop-entry-init : goal.loop-entry-init
 loop-entry-init c = record {
-  goes = goes_begin _ _ _ _ _ _ c.requires.0 (ap (λ (xs : List entry.Entry). map entry_seen xs) c.into_iter-entry-iterator.ensures.into_iter_gives.0 ∙ c.into_vec-entry-items.ensures) c.new-rans.ensures c.requires.1;
+  goes = goes_begin _ _ _ _ _ _ c.requires.0 (ap (λ (xs : List entry.Entry). map entry_seen xs) c.into_iter-entry-iterator.ensures.into_iter_gives.0 ∙ c.into_vec-entries.ensures) c.in_ok-rans.ensures c.requires.1;
   program = refl;
 }
 

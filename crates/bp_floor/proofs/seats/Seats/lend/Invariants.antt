@@ -5,4 +5,4 @@ use Rattle.bp_floor.proofs.LoanLemmas.{Outgoing}
 use Rattle.bp_floor.proofs.seats.Seats.lend.Given as goal
 
 abbrev pub invariant-loop-entry : goal.invariant-loop-entry
-invariant-loop-entry l = record { outgoing : Outgoing (plain_ground l.ground) l.options l.wave (map entry_seen (drop l.entry-index l.entry-items)) l.jobs.items l.fn.self l.self }
+invariant-loop-entry l = record { outgoing : Outgoing (plain_ground l.ground) l.options l.wave (map entry_seen (drop l.entry-index l.entries)) l.jobs.items l.fn.self l.self }
