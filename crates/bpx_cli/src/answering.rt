@@ -7,9 +7,9 @@ ghost use Rattle.bpx_cli.specs.Answers.{Answers, IsUnanswered, IsUnloaded, IsChe
 
 use crate::ended::{Ended, Reply};
 use crate::loading::load;
-use crate::reasoning::tell_why;
-use crate::seeding::tell_seeds;
-use crate::stating::tell_state;
+use crate::reasoning::why_reply;
+use crate::seeding::seeds_reply;
+use crate::stating::state_reply;
 use bp_base::{Sink, World, write_all};
 use bp_check::check;
 use bp_log::Memory;
@@ -40,7 +40,7 @@ fn checked(alloc: Global, program: &Program) -> Result<Reply, Memory>
 }
 
 /// What is found of the program of that name, or how a command ends that finds nothing out.
-fn tell_check<W: World>(alloc: Global, name: &Text, world: &mut W) -> Result<Reply, Ended>
+fn check_reply<W: World>(alloc: Global, name: &Text, world: &mut W) -> Result<Reply, Ended>
     ensures answers { IfOk result
         (λ a. IsCheckOf (W.holds world.old) name.now (string_bytes a.text) a.end) }
     ensures unanswered { IfErr result (IsUnloaded (W.holds world.old) name.now) }
@@ -86,10 +86,10 @@ fn answer_to<R: Threads + Sync, W: World>(
             Ok(answer) => Ok(answer),
             Err(_) => Err(Ended::NoMemory),
         },
-        Request::Check(name) => tell_check(alloc, name, world),
-        Request::State(asked) => tell_state(alloc, asked, world),
-        Request::Why(asked) => tell_why(alloc, asked, world),
-        Request::Seeds(asked) => tell_seeds(rt, alloc, asked, world),
+        Request::Check(name) => check_reply(alloc, name, world),
+        Request::State(asked) => state_reply(alloc, asked, world),
+        Request::Why(asked) => why_reply(alloc, asked, world),
+        Request::Seeds(asked) => seeds_reply(rt, alloc, asked, world),
     }
 }
 

@@ -11,7 +11,7 @@ use bpx_words::Why;
 use std::alloc::Global;
 
 /// What the log of that name answers, or how a command ends that tells nothing.
-pub(crate) fn tell_why<W: World>(alloc: Global, asked: &Why, world: &mut W) -> Result<Reply, Ended>
+pub(crate) fn why_reply<W: World>(alloc: Global, asked: &Why, world: &mut W) -> Result<Reply, Ended>
     ensures answers { IfOk result (λ a.
         IsWhyOf (W.holds world.old) asked.now (string_bytes a.text) × (a.end ≡ Ended.Answered)) }
     ensures unanswered { IfErr result (IsUnexplained (W.holds world.old) asked.now) }

@@ -29,7 +29,7 @@ fn sweep_of(asked: &Seeds) -> Sweep
 
 /// How the runs of the program end under each of the seeds that are asked for, or how a command
 /// ends that tells none.
-pub(crate) fn tell_seeds<R: Threads + Sync, W: World>(
+pub(crate) fn seeds_reply<R: Threads + Sync, W: World>(
     rt: &R,
     alloc: Global,
     asked: &Seeds,

@@ -11,7 +11,7 @@ use bpx_words::State;
 use std::alloc::Global;
 
 /// The state after records of the log of that name, or how a command ends that tells none.
-pub(crate) fn tell_state<W: World>(
+pub(crate) fn state_reply<W: World>(
     alloc: Global,
     asked: &State,
     world: &mut W,

@@ -1,6 +1,6 @@
 use Rattle.bpx_cli.specs.States.{states}
 use Rattle.bpx_cli.proofs.Said.{said_under, reply_said, reply_unsaid}
-use Rattle.bpx_cli.proofs.stating.tell_state.Goals as goal
+use Rattle.bpx_cli.proofs.stating.state_reply.Goals as goal
 
 pub returns-clause-answers : goal.returns-clause-answers
 returns-clause-answers g c =
