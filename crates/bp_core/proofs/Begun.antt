@@ -4,7 +4,6 @@ use Rattle.std.specs.List.{AllZip, filter_map, cons_option}
 use Rattle.js_value.specs.Value.{PlainSet}
 use Rattle.js_meaning.specs.State.{Ground}
 use Rattle.js_meaning.specs.Bodies.{Origin, the_top}
-use Rattle.js_frames.specs.Places.{plain_effects}
 use Rattle.bp_log.specs.Options.{PlainOptions}
 use Rattle.bp_log.specs.declared.trace.Line.{Line}
 use Rattle.bp_log.specs.declared.verdict.Verdict.{Verdict}
@@ -15,7 +14,7 @@ use Rattle.bp_run.specs.Settling.Entry.{The_top, Runs, Stops}
 use Rattle.bp_run.specs.Numbers.{number_of}
 use Rattle.bp_steps.specs.Steps.{Moment, pair_at, bodies, lent_bodies, fresh, lends, settled}
 use Rattle.bp_thread.specs.declared.job.Job.{Job}
-use Rattle.bp_thread.specs.Jobs.{StandsAt}
+use Rattle.bp_thread.specs.Jobs.{plain_job, StandsAt}
 use Rattle.bp_thread.specs.Carried.{Carries, HaveDistinctNumbers}
 use Rattle.bp_code.specs.Code.{ground_for, sealed_code_of as code_of}
 use Rattle.bp_floor.specs.declared.phase.Phase.TheVariants.{Ready, Lent}
@@ -59,7 +58,7 @@ module _ (base : Ground) (o : PlainOptions) where
         of_program = (l.job).of_program;
         ground = g;
         whole = r.whole;
-        begun = (l.outcome, f.before ++ plain_effects j.effects, subst (λ (x : Ground). StandsAt x o.budget 0 (f.before ++ plain_effects j.effects) j) (sym g) f.stands);
+        begun = (l.outcome, f.before ++ (plain_job j).effects, subst (λ (x : Ground). StandsAt x o.budget 0 (f.before ++ (plain_job j).effects) j) (sym g) f.stands);
       }
 
   begun_at : (n : ℕ) (b : Option (Body Origin)) (js : List Job) (rest : List Job → Type 0) (bs : List (Body Origin)) → JobFor (IsLent base.program o) n b js rest → AllCanRun base o.budget js →

@@ -27,8 +27,7 @@ use Rattle.js_frames.specs.Frames.{statements_of, parts_from, declares_from, dec
 use Rattle.js_frames.specs.Places.{place_of, setting_at, state_at, plain_effects}
 use Rattle.js_frames.specs.Runs.{Stands}
 use Rattle.bp_thread.specs.declared.job.Job.{Job}
-use Rattle.bp_thread.specs.Views.{plain_origin}
-use Rattle.bp_thread.specs.Jobs.{StandsAt, IsWhole}
+use Rattle.bp_thread.specs.Jobs.{plain_job, StandsAt, IsWhole}
 
 -- effects come after these
 abbrev Behind : List Effect → Outcome → Type 0
@@ -138,7 +137,7 @@ module _ (g : Setting) where
 
 -- what was made stays, whatever replies come
 pub made_begins : (base : Ground) (budget begun : ℕ) (made : List Effect) (j : Job) (later : List PlainEvent) → StandsAt base budget begun made j →
-    (more : List Effect) × (effects_of (evaluation base budget (plain_origin j.origin) (j.replies ++ later)) ≡ made ++ more)
+    (more : List Effect) × (effects_of (evaluation base budget (plain_job j).origin ((plain_job j).replies ++ later)) ≡ made ++ more)
 unfolding Stands future
 made_begins base budget begun made j later at =
     let c = at.stands in
@@ -150,9 +149,9 @@ made_begins base budget begun made j later at =
 
 -- and what a whole job has begins what it has at last
 pub whole_begins : (base : Ground) (budget : ℕ) (j : Job) → IsWhole base budget j →
-    (more : List Effect) × (effects_since (evaluation base budget (plain_origin j.origin) j.replies) ≡ plain_effects j.effects ++ more)
+    (more : List Effect) × (effects_since (evaluation base budget (plain_job j).origin (plain_job j).replies) ≡ (plain_job j).effects ++ more)
 whole_begins base budget j w =
-    let es = plain_effects j.effects in
+    let es = (plain_job j).effects in
     let b = made_begins base budget w.begun (w.before ++ es) j [] w.stands in
-    let same = ap (λ (rs : List PlainEvent). effects_of (evaluation base budget (plain_origin j.origin) rs)) (append-nil j.replies) in
+    let same = ap (λ (rs : List PlainEvent). effects_of (evaluation base budget (plain_job j).origin rs)) (append-nil (plain_job j).replies) in
     (b.0, append_cancel_left w.before _ _ (sym w.since ∙ sym same ∙ b.1 ∙ append_assoc w.before es b.0))

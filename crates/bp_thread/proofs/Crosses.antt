@@ -18,6 +18,7 @@ use Rattle.js_data.specs.contracts.event.Event as Event
 use Rattle.bp_thread.specs.contracts.statement.Statement as Statement
 use Rattle.bp_thread.specs.contracts.outcome.Outcome as Outcome
 use Rattle.bp_thread.specs.contracts.origin.Origin as Origin
+use Rattle.bp_thread.specs.contracts.job.JobParts as JobParts
 use Rattle.bp_thread.specs.contracts.job.Job as Job
 
 events_send : IsSend Events.the_row
@@ -55,6 +56,9 @@ outcome_send = variants_send Outcome.enum ((statement_send, tt), (tt, ((search (
 origin_send : IsSend Origin.the_row
 origin_send = variants_send Origin.enum (tt, ((search (sendable, mode.the_send), (search (sendable, value_send), (search (sendable, items_send), tt))), tt))
 
+parts_send : IsSend JobParts.the_row
+parts_send = declared_send JobParts.the_type
+    (search (sendable, heap_send), (search sendable, (text_send, (origin_send, (replies_send, (search (sendable, machine_send) depth 18, (effects_send, (search (sendable, value_send) depth 18, (search (sendable, outcome_send) depth 18, tt)))))))))
+
 pub job_send : IsSend Job.the_row
-job_send = declared_send Job.the_type
-    (search (sendable, heap_send), (search sendable, (text_send, (origin_send, (replies_send, (search (sendable, crosses, machine_send) depth 18, (effects_send, (search (sendable, value_send) depth 18, (search (sendable, outcome_send) depth 18, tt)))))))))
+job_send = declared_send Job.the_type (search (sendable, crosses, parts_send) depth 18, tt)

@@ -10,13 +10,12 @@ use Rattle.js_meaning.specs.Bodies.{Origin, evaluation, constants_left}
 use Rattle.js_frames.specs.declared.machine.Machine.{Machine}
 use Rattle.js_frames.specs.declared.machine.Pause.{Pause}
 use Rattle.js_frames.specs.declared.machine.Pause.TheVariants as pause
-use Rattle.js_frames.specs.Places.{plain_effects}
 use Rattle.js_frames.specs.Runs.{Stands, Runs, Says, Waits, IsReached, untaken, asked_by, line_asked, constants_by}
 use Rattle.bp_run.specs.Bodies as run
 use Rattle.bp_meaning.specs.After.{outcome_of, stopped_with, handler_after}
 use Rattle.bp_thread.specs.declared.job.Job.{Job}
 use Rattle.bp_thread.specs.declared.outcome.Outcome.{Outcome}
-use Rattle.bp_thread.specs.Views.{plain_origin, plain_outcome}
+use Rattle.bp_thread.specs.Views.{plain_outcome}
 use Rattle.bp_thread.specs.Pauses.{outcome_of_pause}
 use Rattle.bp_thread.specs.Jobs.{plain_job, machine_of, is_stopped, is_ended, stop_line, IsOf, IsOutcome, StandsAt, IsWhole, IsSame, Sliced}
 use Rattle.bp_thread.specs.Carried.{Carries}
@@ -95,10 +94,10 @@ pub record Taken (m n : Machine) (fresh : List Effect) : Type 0 where
 -- the second job is the first one after a pause of its machine, with the effects since then
 pub record Paused (old new : Job) (p : Pause) (m n : Machine) (fresh : List Effect) : Type 0 where
   pub there : machine_of new ≡ Some n
-  pub origin : new.origin ≡ old.origin
-  pub replies : new.replies ≡ old.replies
+  pub origin : (plain_job new).origin ≡ (plain_job old).origin
+  pub replies : (plain_job new).replies ≡ (plain_job old).replies
   pub taken : Taken m n fresh
-  pub effects : plain_effects new.effects ≡ plain_effects old.effects ++ fresh
+  pub effects : (plain_job new).effects ≡ (plain_job old).effects ++ fresh
   pub handler : (plain_job new).handler ≡ fold handler_after (plain_job old).handler fresh
   pub outcome : (plain_job new).outcome ≡ outcome_of_pause p (asked_by n) (line_asked n)
 
@@ -106,9 +105,9 @@ module _ (base : Ground) (budget nodes : ℕ) (old new : Job) (p : Pause) (m n :
   at_pause : (plain_job new).outcome ≡ outcome_of_pause p (asked_by m) (line_asked m)
   at_pause = paused_at.outcome ∙ ap (λ a. outcome_of_pause p a (line_asked n)) (paused_at.taken).asked ∙ ap (outcome_of_pause p (asked_by m)) (paused_at.taken).line
 
-  pub sliced : (begun : ℕ) (made : List Effect) (done : Bool) → done ≡ is_some (plain_job new).outcome → StandsAt base budget begun made old → Runs base budget (plain_origin old.origin) old.replies begun made nodes p m → Sliced base budget begun made nodes done old new
+  pub sliced : (begun : ℕ) (made : List Effect) (done : Bool) → done ≡ is_some (plain_job new).outcome → StandsAt base budget begun made old → Runs base budget (plain_job old).origin (plain_job old).replies begun made nodes p m → Sliced base budget begun made nodes done old new
   sliced begun made done is at runs =
-      let o = evaluation base budget (plain_origin old.origin) old.replies in
+      let o = evaluation base budget (plain_job old).origin (plain_job old).replies in
       let t = paused_at.taken in
       record {
         more = runs.more;
@@ -118,7 +117,7 @@ module _ (base : Ground) (budget nodes : ℕ) (old new : Job) (p : Pause) (m n :
         stands = record {
           machine = n;
           there = paused_at.there;
-          stands = rw (paused_at.origin, paused_at.replies) (t.stands base budget (plain_origin old.origin) old.replies (begun + runs.more) made runs.stands);
+          stands = rw (paused_at.origin, paused_at.replies) (t.stands base budget (plain_job old).origin (plain_job old).replies (begun + runs.more) made runs.stands);
           all_taken = t.left;
           handler = paused_at.handler ∙ ap (λ h. fold handler_after h fresh) at.handler ∙ sym (fold-append handler_after None made fresh);
           outcome = rw (paused_at.origin, paused_at.replies, at_pause, t.given) (paused o begun runs.more nodes budget (made ++ untaken m) m p runs.says);
@@ -132,11 +131,11 @@ module _ (base : Ground) (budget nodes : ℕ) (old new : Job) (p : Pause) (m n :
       }
 
 still_whole : (base : Ground) (budget nodes : ℕ) (old new : Job) → IsSame (plain_job old) (plain_job new) → (w : IsWhole base budget old) (done : Bool) →
-    Sliced base budget w.begun (w.before ++ plain_effects old.effects) nodes done old new → IsWhole base budget new
+    Sliced base budget w.begun (w.before ++ (plain_job old).effects) nodes done old new → IsWhole base budget new
 still_whole base budget nodes old new same w done s = record {
   begun = w.begun + s.more;
   before = w.before;
-  stands = subst (λ es. StandsAt base budget (w.begun + s.more) es new) (append_assoc w.before (plain_effects old.effects) s.fresh ∙ ap (λ es. w.before ++ es) (sym s.effects)) s.stands;
+  stands = subst (λ es. StandsAt base budget (w.begun + s.more) es new) (append_assoc w.before (plain_job old).effects s.fresh ∙ ap (λ es. w.before ++ es) (sym s.effects)) s.stands;
   since = rw (same.origin, same.replies) w.since;
 }
 

@@ -1,15 +1,9 @@
 -- What a job keeps of its machine and its outcome together.
 use Rattle.std.specs.Prelude.{Bool, true, false, Option, Some, None, is_some}
-use Rattle.std.specs.Global.{Box}
 use Rattle.js_frames.specs.declared.machine.Machine.{Machine}
 use Rattle.js_frames.specs.Runs.{asked_by}
 use Rattle.bp_thread.specs.declared.outcome.Outcome.{Outcome}
 use Rattle.bp_thread.specs.declared.outcome.Outcome.TheVariants.{Stopped}
-
--- the machine in the box, if it is there
-abbrev pub boxed : Option (Box Machine) → Option Machine
-boxed None = None
-boxed (Some m) = Some m.value
 
 -- where the outcome is there, so is the machine; and where it is a stop, the machine asks
 abbrev pub fits_outcome : Option Machine → Option Outcome → Bool

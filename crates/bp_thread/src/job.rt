@@ -9,7 +9,7 @@ ghost use Rattle.js_frames.specs.Places.{plain_ground, plain_effects};
 ghost use Rattle.js_frames.specs.Runs.{Stands, untaken};
 ghost use Rattle.js_meaning.specs.State.{effects_since};
 ghost use Rattle.bp_meaning.specs.After.{after, handler as handler_set};
-ghost use Rattle.bp_thread.specs.Kept.{boxed, fits_outcome};
+ghost use Rattle.bp_thread.specs.Kept.{fits_outcome};
 ghost use Rattle.bp_thread.specs.Views.{plain_outcome, plain_origin};
 
 use crate::keeping::{append, set_handler};
@@ -25,27 +25,25 @@ use std::alloc::{AllocError, Global};
 use std::mem;
 use std::sync::Arc;
 
-/// A body that is carried on slice by slice, with the events that it was given and what it did.
-///
-/// A job is a plain value: it moves between threads, and its calls need nothing but its ground.
-pub struct Job {
+/// What a job is made of.
+struct JobParts {
     alloc: Global,
     number: u32,
     name: Text,
     origin: Origin,
     replies: Replies,
-    /// Nothing after memory ran out. On the heap, so that a job that moves is small.
-    machine: Option<Box<Machine>>,
+    /// Nothing after memory ran out.
+    machine: Option<Machine>,
     effects: Effects,
     handler: Option<Value>,
     outcome: Option<Outcome>,
     /// Where the outcome is there, so is the machine; and where it is a stop, the machine asks.
-    ghost kept: { fits_outcome (boxed machine) outcome ≡ true },
+    ghost kept: { fits_outcome machine outcome ≡ true },
 }
 
-impl Drop for Job {
+impl Drop for JobParts {
     fn drop(self) {
-        let Job {
+        let JobParts {
             alloc: _,
             number: _,
             name: _,
@@ -59,13 +57,53 @@ impl Drop for Job {
     }
 }
 
+impl JobParts {
+    /// Its machine, moved out, unless that is lost.
+    fn into_machine(self) -> Option<Machine>
+        ensures { result ≡ self.machine }
+    {
+        let JobParts {
+            alloc: _,
+            number: _,
+            name: _,
+            origin: _,
+            replies: _,
+            machine,
+            effects: _,
+            handler: _,
+            outcome: _,
+        } = self;
+        machine
+    }
+}
+
+/// A body that is carried on slice by slice, with the events that it was given and what it did.
+///
+/// A job is a plain value: it moves between threads, and its calls need nothing but its ground. It is
+/// on the heap, so that moving it copies one pointer.
+pub struct Job {
+    parts: Box<JobParts>,
+}
+
+impl Drop for Job {
+    fn drop(self) {
+        let Job { parts: _ } = self;
+    }
+}
+
 impl Job {
     ghost use Rattle.bp_thread.specs.Jobs.{plain_job, machine_of, IsOf, IsLost, is_stopped, is_ended, stop_line, StandsAt, StandsFor, IsWhole, IsFresh, IsSame, Sliced};
     ghost use Rattle.bp_thread.specs.Carried.{carried, Carries};
 
     /// A job that has this machine, which has not begun.
-    fn on(alloc: Global, number: u32, name: Text, origin: Origin, machine: Box<Machine>) -> Job
-        ensures made { plain_job result ≡ record {
+    fn on(
+        alloc: Global,
+        number: u32,
+        name: Text,
+        origin: Origin,
+        machine: Machine,
+    ) -> Result<Job, Memory>
+        ensures made { IfOk result (λ j. plain_job j ≡ record {
           number = number;
           name = name;
           origin = plain_origin origin;
@@ -73,13 +111,13 @@ impl Job {
           effects = [];
           handler = None;
           outcome = None;
-        } }
-        ensures machine { machine_of result ≡ Some machine.value }
+        }) }
+        ensures machine { IfOk result (λ j. machine_of j ≡ Some machine) }
         ensures fresh { (base : js.Ground) → (budget : ℕ) →
-            Stands base budget (plain_origin origin) [] 0 [] machine.value →
-            untaken machine.value ≡ [] → IsFresh base budget result }
+            Stands base budget (plain_origin origin) [] 0 [] machine → untaken machine ≡ [] →
+            IfOk result (λ j. IsFresh base budget j) }
     {
-        Job {
+        let parts = JobParts {
             alloc,
             number,
             name,
@@ -89,7 +127,9 @@ impl Job {
             effects: Effects::new(alloc),
             handler: None,
             outcome: None,
-        }
+        };
+        let parts = Box::new(alloc, parts)?;
+        Ok(Job { parts })
     }
 
     /// A job that stands at the start of a call of a function.
@@ -120,9 +160,8 @@ impl Job {
     {
         let args = Items::new(alloc, args)?;
         let machine = Machine::start(alloc, ground, &callee, args.as_slice(), kind, budget)?;
-        let machine = Box::new(alloc, machine)?;
         let origin = Origin::Call(kind, callee, args);
-        Ok(Job::on(alloc, number, name, origin, machine))
+        Job::on(alloc, number, name, origin, machine)
     }
 
     /// A job that stands at the start of the top level. Its number is 0, and its name is empty.
@@ -140,30 +179,29 @@ impl Job {
         ensures fresh { IfOk result (λ j. IsFresh (plain_ground ground.now) budget j) }
     {
         let machine = Machine::top(alloc, ground, budget)?;
-        let machine = Box::new(alloc, machine)?;
         let name = Text::new(String::new(alloc));
-        Ok(Job::on(alloc, 0, name, Origin::Top, machine))
+        Job::on(alloc, 0, name, Origin::Top, machine)
     }
 
     /// Its number.
     pub fn number(&self) -> u32
         ensures { result ≡ (plain_job self.now).number }
     {
-        self.number
+        self.parts.number
     }
 
     /// Its name.
     pub fn name(&self) -> &Text
         ensures { result.now ≡ (plain_job self.now).name }
     {
-        &self.name
+        &self.parts.name
     }
 
     /// The events that it was given, in order, each shared by all that were given it.
     pub fn replies(&self) -> &[Arc<Event>]
         ensures { map arc_value result.now ≡ (plain_job self.now).replies }
     {
-        self.replies.as_slice()
+        self.parts.replies.as_slice()
     }
 
     /// Where its body stands; nothing from the start or a `give` on until a `slice` answers true.
@@ -173,7 +211,7 @@ impl Job {
             IfSome result (λ o. plain_outcome o.now ≡ (after base budget
             (plain_job self.now).origin (plain_job self.now).replies).outcome) }
     {
-        self.outcome.as_ref()
+        self.parts.outcome.as_ref()
     }
 
     /// The line of the `bp.sync` where its body stands, where it stands at one.
@@ -184,10 +222,10 @@ impl Job {
             (plain_job self.now).origin (plain_job self.now).replies) }
         ensures none { is_stopped (plain_job self.now).outcome ≡ false → result ≡ None }
     {
-        let Some(machine) = &self.machine else {
+        let Some(machine) = &self.parts.machine else {
             return None;
         };
-        match &self.outcome {
+        match &self.parts.outcome {
             Some(outcome) => match outcome {
                 Outcome::Stopped(_) => Some(machine.line()),
                 _ => None,
@@ -203,7 +241,7 @@ impl Job {
             IsSome (plain_job self.now).outcome → option_map (λ v. plain_value v.now) result
             ≡ handler_set base budget (plain_job self.now).origin (plain_job self.now).replies }
     {
-        self.handler.as_ref()
+        self.parts.handler.as_ref()
     }
 
     /// What each job with an outcome is whose effects are whole, as a fact for its callers. Does
@@ -221,19 +259,9 @@ impl Job {
             (plain_job self).origin ≡ the_top →
             result ≡ constants_left (evaluation base budget the_top (plain_job self).replies) }
     {
-        let Job {
-            alloc: _,
-            number: _,
-            name: _,
-            origin: _,
-            replies: _,
-            machine,
-            effects: _,
-            handler: _,
-            outcome: _,
-        } = self;
-        match machine {
-            Some(machine) => Box::into_inner(machine).constants(),
+        let Job { parts } = self;
+        match Box::into_inner(parts).into_machine() {
+            Some(machine) => machine.constants(),
             None => unreachable!(),
         }
     }
@@ -254,9 +282,10 @@ impl Job {
     {
         let kept = event.clone()?;
         let answer = event.clone()?;
-        self.replies.push(kept)?;
-        self.outcome = None;
-        if let Some(machine) = &mut self.machine {
+        let parts = &mut *self.parts;
+        parts.replies.push(kept)?;
+        parts.outcome = None;
+        if let Some(machine) = &mut parts.machine {
             machine.resume(answer);
         }
         Ok(())
@@ -277,17 +306,17 @@ impl Job {
         ensures open { OnErr result ((plain_job self.new).outcome ≡ None) }
         ensures stays_lost { IsLost self.old → IsErr result }
     {
-        let Some(boxed) = &mut self.machine else {
+        let parts = &mut *self.parts;
+        let Some(machine) = &mut parts.machine else {
             return Err(AllocError);
         };
-        let machine = &mut **boxed;
         let pause = machine.run(ground, nodes)?;
         let fresh = machine.take_effects();
-        set_handler(&mut self.handler, fresh.items.as_slice())?;
-        append(&mut self.effects, fresh)?;
-        let outcome = outcome_at(self.alloc, machine, pause)?;
+        set_handler(&mut parts.handler, fresh.items.as_slice())?;
+        append(&mut parts.effects, fresh)?;
+        let outcome = outcome_at(parts.alloc, machine, pause)?;
         let done = outcome.is_some();
-        self.outcome = outcome;
+        parts.outcome = outcome;
         Ok(done)
     }
 
@@ -311,7 +340,7 @@ impl Job {
         ensures stays_lost { IsLost self.old → IsErr result }
     {
         let Ok(there) = self.step(ground, nodes) else {
-            self.machine = None;
+            self.parts.machine = None;
             return Err(AllocError);
         };
         Ok(there)
@@ -328,6 +357,7 @@ impl Job {
             IsSome (plain_job self.old).outcome → plain_effects result ≡ effects_since
             (evaluation base budget (plain_job self.old).origin (plain_job self.old).replies) }
     {
-        mem::replace(&mut self.effects, Effects::new(self.alloc))
+        let parts = &mut *self.parts;
+        mem::replace(&mut parts.effects, Effects::new(parts.alloc))
     }
 }
