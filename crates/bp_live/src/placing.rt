@@ -158,6 +158,14 @@ impl StatedList {
         }
     }
 
+    /// That the live ones are in the order of their numbers, as a fact for its callers. Does nothing.
+    pub fn keeps(&self)
+        ensures { AreInOrder self.now.live }
+    {
+        // Reads a field for the proof alone: so what the type keeps is known.
+        let _gone = self.gone;
+    }
+
     /// The b-thread of this number states this from now on; with nothing it is not live. Then the
     /// list may be tidy no more. Its only error is out of memory, and then all state what they stated.
     pub fn place(&mut self, number: u32, statement: Option<Statement>) -> Result<(), Memory>

@@ -1,5 +1,5 @@
 -- Who is noted at which keys.
-use Rattle.std.proofs.Common.{◌≡◌, ◌⊎◌, inl, inr, ℕ, zero, suc, ◌+◌, ◌<◌, ◌≤◌, arith, Bool, true, false, not, ◌||◌, nat_eq, nat_lt, List, [], ◌∷◌, ◌++◌, length, map, take, drop, get_or, slice_index, refl, ap, sym, ◌∙◌, subst, Option, Some, None, Result, Ok, Err, OnOk, OnErr, if◌then◌else◌, slice_get}
+use Rattle.std.proofs.Common.{◌≡◌, ◌⊎◌, inl, inr, ℕ, zero, suc, ◌+◌, ◌<◌, ◌≤◌, arith, Bool, true, false, not, ◌||◌, nat_eq, nat_lt, List, [], ◌∷◌, ◌++◌, Contains, length, map, take, drop, get_or, slice_index, refl, ap, sym, ◌∙◌, subst, Option, Some, None, Result, Ok, Err, OnOk, OnErr, if◌then◌else◌, slice_get}
 use Rattle.std.specs.List.{cons_option, list_any}
 use Rattle.std.proofs.lemmas.Bool.{eq-eqb, eqb-true, ne_eqb, ltb-true, or_left, or_right}
 use Rattle.std.proofs.lemmas.List.{drop_all, drop_more, take_all, take_more, take-append-drop, map_push}
@@ -19,7 +19,6 @@ use Rattle.bp_roll.specs.Rolls.{PlainRoll, is_in, is_noted}
 use Rattle.bp_known.specs.Known.{Sets}
 use Rattle.bp_live.specs.declared.stated.Stated.{Stated}
 use Rattle.bp_select.specs.declared.heeds.Heeds as heeds
-use Rattle.bp_select.specs.inner.BlockSets.{AreOfUnchanged}
 use Rattle.bp_live.specs.Placing.{live_at, placed}
 use Rattle.bp_roll.specs.Feeding.{event_key}
 use Rattle.bp_select.specs.inner.Heeding.{AreKept, AreNoted, HaveKeysOf, HeedsAt, IsNoted, Stays, TouchedAt, WhereWhole, any_key, asks_key, blocks_key}
@@ -28,7 +27,7 @@ use Rattle.bp_live.specs.Lives.{live_of}
 use Rattle.bp_select.specs.inner.Parts.{asks_nothing, blocks_nothing}
 use Rattle.bp_live.specs.Numbers.{place_in, is_number}
 use Rattle.bp_live.specs.Places.{AreAbove, AreInOrder}
-use Rattle.bp_select.proofs.Noting.{noted_placed, noted_more}
+use Rattle.bp_select.proofs.Noting.{Notes, noted_placed, noted_more}
 use Rattle.bp_live.proofs.Numbered.{number_at}
 use Rattle.bp_live.proofs.Putting.{above, above_get, place_of_one}
 
@@ -352,19 +351,16 @@ numbers_all all i ns low h = subst (λ (xs : List Stated). Each (λ t. is_in t.n
 
 -- ---- one is placed
 
-pub kept_more : (n : ℕ) (ts us : List (Live PlainSet)) (sets : Sets) (changed numbers : List ℕ) (old new : heeds.Heeds) → us ≡ ts → numbers ≡ changed ++ n ∷ [] →
-    ((vs : List (Live PlainSet)) → WhereWhole old.whole vs old.roll old.changed → WhereWhole new.whole vs new.roll new.changed) → AreKept ts sets changed old → AreKept us sets numbers new
-kept_more n ts us sets changed numbers old new e q others k = record {
-  blocking = subst (λ (xs : List ℕ). AreOfUnchanged us sets xs) (sym q) (noted_more n ts us sets changed e k.blocking);
-  heeding = others us (subst (λ (xs : List (Live PlainSet)). WhereWhole old.whole xs old.roll old.changed) (sym e) k.heeding);
-}
+pub kept_more : (ts : List (Live PlainSet)) (sets : Sets) (changed numbers : List ℕ) (old new : heeds.Heeds) → ((n : ℕ) → Contains changed n → Contains numbers n) →
+    ((vs : List (Live PlainSet)) → WhereWhole old.whole vs old.roll old.changed → WhereWhole new.whole vs new.roll new.changed) → AreKept ts sets changed old → AreKept ts sets numbers new
+kept_more ts sets changed numbers old new more others k = record { blocking = noted_more ts sets changed numbers more k.blocking; heeding = others ts k.heeding }
 
 -- whether or not memory ran out
-pub kept_placed : {E : Type 0} (n : ℕ) (o : Option (Statement PlainSet)) (ts us : List (Live PlainSet)) (sets : Sets) (changed numbers : List ℕ) (old new : heeds.Heeds) (r : Result (Unit {0}) E) → OnOk r (us ≡ placed n o ts) → OnErr r (us ≡ ts) →
-    numbers ≡ changed ++ n ∷ [] → (new.whole ≡ true → is_in n new.changed ≡ true) →
+pub kept_placed : {E : Type 0} (n : ℕ) (o : Option (Statement PlainSet)) (ts us : List (Live PlainSet)) (sets : Sets) (changed numbers : List ℕ) (old new : heeds.Heeds) (r : Result (Unit {0}) E) → AreInOrder ts → OnOk r (us ≡ placed n o ts) → OnErr r (us ≡ ts) →
+    Notes sets n o changed numbers → (new.whole ≡ true → is_in n new.changed ≡ true) →
     ((vs : List (Live PlainSet)) → WhereWhole old.whole vs old.roll old.changed → WhereWhole new.whole vs new.roll new.changed) → AreKept ts sets changed old → AreKept us sets numbers new
-kept_placed {E} n o ts us sets changed numbers old new r h k q noted others was = record {
-  blocking = noted_placed n o ts us sets changed numbers r h k q was.blocking;
+kept_placed {E} n o ts us sets changed numbers old new r order h k notes noted others was = record {
+  blocking = noted_placed n o ts us sets changed numbers r order h k notes was.blocking;
   heeding = λ w. by r h k w;
 }
   where

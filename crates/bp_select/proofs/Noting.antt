@@ -1,17 +1,18 @@
 -- Block sets that become those of the b-threads.
-use Rattle.std.proofs.Common.{◌≡◌, ◌≢◌, ◌⊎◌, inl, inr, ℕ, zero, suc, ◌+◌, ◌<◌, ◌≤◌, arith, Bool, true, false, nat_eq, nat_lt, List, [], ◌∷◌, ◌++◌, length, map, take, drop, get_or, refl, ap, sym, ◌∙◌, subst, Option, Some, None, Result, Ok, Err, if◌then◌else◌, slice_get, Contains}
+use Rattle.std.proofs.Common.{◌≡◌, ◌≢◌, ◌⊎◌, inl, inr, ℕ, zero, suc, ◌+◌, ◌<◌, arith, Bool, true, false, nat_eq, nat_lt, List, [], ◌∷◌, ◌++◌, length, map, take, drop, get_or, refl, ap, sym, ◌∙◌, subst, Option, Some, None, Result, Ok, Err, if◌then◌else◌, slice_get, Contains}
 use Rattle.std.specs.List.{cons_option}
 use Rattle.std.specs.Result.{OnOk, OnErr}
-use Rattle.std.proofs.lemmas.Bool.{cases_eq, ltb-true, eqb-true, eq-eqb}
-use Rattle.std.proofs.lemmas.List.{drop_all, drop_more, take-append-drop}
-use Rattle.std.proofs.lemmas.List.Elements.{Contains-get_or, Contains-push, Contains-append_left, Contains-append_right}
+use Rattle.std.proofs.lemmas.Bool.{not-false, cases_eq, ltb-true, eqb-true, eq-eqb}
+use Rattle.std.proofs.lemmas.List.{drop_more, take-append-drop}
+use Rattle.std.proofs.lemmas.List.Elements.{Contains-get_or, Contains-append_right, Contains-append_left, Contains-push}
 use Rattle.js_value.specs.Value.{PlainSet}
 use Rattle.bp_run.specs.Bodies.{Statement}
 use Rattle.bp_run.specs.Selecting.{Live}
 use Rattle.bp_live.specs.declared.stated.Stated.{Stated}
 use Rattle.bp_live.specs.Placing.{live_at, placed}
-use Rattle.bp_select.specs.Blocks.{AreOf, block_at, own_set}
-use Rattle.bp_select.specs.inner.BlockSets.{AreOfUnchanged}
+use Rattle.bp_select.specs.Blocks.{block_at, own_set}
+use Rattle.bp_select.specs.inner.BlockSets.{AreOfUnchanged, HasNoBlock, has_block}
+use Rattle.bp_select.specs.EmptySets.{is_empty}
 use Rattle.bp_known.specs.Known.{Sets, restated, sets_in}
 use Rattle.bp_live.specs.Lives.{live_of}
 use Rattle.bp_live.specs.Numbers.{place_in, is_number}
@@ -19,7 +20,7 @@ use Rattle.bp_live.specs.Places.{AreAbove, AreInOrder}
 use Rattle.bp_known.proofs.Knowing.{restated_apart, restated_here}
 use Rattle.bp_live.proofs.Numbered.{number_at}
 use Rattle.bp_live.proofs.Putting.{above, above_trans, place_of_one}
-use Rattle.bp_select.proofs.Telling.{above_block, block_apart, block_index}
+use Rattle.bp_select.proofs.Telling.{above_block, block_apart, block_here, block_index, own_empty}
 
 -- ---- one is placed
 
@@ -37,38 +38,66 @@ block_placed n m o (t ∷ ts) h = by (nat_lt n t.number) (nat_eq n t.number) ref
     by false true e ih = placed_block n m o ts h ∙ sym (block_apart t ts m (λ q. h (eqb-true n t.number e ∙ q)))
     by false false e ih = ap (λ (r : Option PlainSet). if nat_eq t.number m then own_set t else r) ih
 
-noted_put : (n : ℕ) (o : Option (Statement PlainSet)) (ts us : List (Live PlainSet)) (sets : Sets) (changed : List ℕ) → us ≡ placed n o ts → AreOfUnchanged ts sets changed → AreOfUnchanged us sets (changed ++ n ∷ [])
-noted_put n o ts us sets changed h k = record { each = λ m. by m (cases_eq n m) (k.each m) }
-  where
-    by : (m : ℕ) → (n ≡ m) ⊎ (n ≢ m) → Contains changed m ⊎ (sets m ≡ block_at ts m) → Contains (changed ++ n ∷ []) m ⊎ (sets m ≡ block_at us m)
-    by m (inl q) w = inl (subst (Contains (changed ++ n ∷ [])) q (Contains-push changed n))
-    by m (inr q) (inl c) = inl (Contains-append_left changed (n ∷ []) m c)
-    by m (inr q) (inr e) = inr (e ∙ sym (ap (λ (xs : List (Live PlainSet)). block_at xs m) h ∙ block_placed n m o ts q))
-
-pub noted_more : (n : ℕ) (ts us : List (Live PlainSet)) (sets : Sets) (changed : List ℕ) → us ≡ ts → AreOfUnchanged ts sets changed → AreOfUnchanged us sets (changed ++ n ∷ [])
-noted_more n ts us sets changed h k = record { each = λ m. by m (k.each m) }
-  where
-    by : (m : ℕ) → Contains changed m ⊎ (sets m ≡ block_at ts m) → Contains (changed ++ n ∷ []) m ⊎ (sets m ≡ block_at us m)
-    by m (inl c) = inl (Contains-append_left changed (n ∷ []) m c)
-    by m (inr e) = inr (e ∙ ap (λ (xs : List (Live PlainSet)). block_at xs m) (sym h))
-
--- whether or not memory ran out
-pub noted_placed : {E : Type 0} (n : ℕ) (o : Option (Statement PlainSet)) (ts us : List (Live PlainSet)) (sets : Sets) (changed numbers : List ℕ) (r : Result (Unit {0}) E) → OnOk r (us ≡ placed n o ts) → OnErr r (us ≡ ts) →
-    numbers ≡ changed ++ n ∷ [] → AreOfUnchanged ts sets changed → AreOfUnchanged us sets numbers
-noted_placed n o ts us sets changed numbers (Ok x) h k e w = subst (λ (ns : List ℕ). AreOfUnchanged us sets ns) (sym e) (noted_put n o ts us sets changed h w)
-noted_placed n o ts us sets changed numbers (Err x) h k e w = subst (λ (ns : List ℕ). AreOfUnchanged us sets ns) (sym e) (noted_more n ts us sets changed k w)
-
-pub noted_same : (ts us : List (Live PlainSet)) (sets : Sets) (changed : List ℕ) → us ≡ ts → AreOfUnchanged ts sets changed → AreOfUnchanged us sets changed
-noted_same ts us sets changed h k = subst (λ (xs : List (Live PlainSet)). AreOfUnchanged xs sets changed) (sym h) k
-
--- ---- the block set of a number
-
 pub none_above : (n : ℕ) (ts : List (Live PlainSet)) → AreAbove n ts → block_at ts n ≡ None
 none_above n ts h = by (block_at ts n) refl
   where
     by : (o : Option PlainSet) → block_at ts n ≡ o → o ≡ None
     by None e = refl
     by (Some s) e = (let low = above_block n n ts s h e in absurd (omega (arith, low)))
+
+-- a b-thread that states no block set has none
+placed_none : (n : ℕ) (o : Option (Statement PlainSet)) (ts : List (Live PlainSet)) → has_block o ≡ false → block_at ts n ≡ None → block_at (cons_option (live_at n o) ts) n ≡ None
+placed_none n None ts h e = e
+placed_none n (Some s) ts h e = block_here t ts n refl ∙ own_empty t (not-false (is_empty s.block) h)
+  where
+    t : Live PlainSet
+    t = record { number = n; statement = s }
+
+none_placed : (n : ℕ) (o : Option (Statement PlainSet)) (ts : List (Live PlainSet)) → AreInOrder ts → has_block o ≡ false → block_at (placed n o ts) n ≡ None
+none_placed n o [] k h = placed_none n o [] h refl
+none_placed n o (t ∷ ts) k h = by (nat_lt n t.number) (nat_eq n t.number) refl refl (none_placed n o ts k.1 h)
+  where
+    by : (b c : Bool) → nat_lt n t.number ≡ b → nat_eq n t.number ≡ c → block_at (placed n o ts) n ≡ None →
+        block_at (if b then cons_option (live_at n o) (t ∷ ts) else if c then cons_option (live_at n o) ts else t ∷ placed n o ts) n ≡ None
+    by true c below e ih = placed_none n o (t ∷ ts) h (none_above n (t ∷ ts) (ltb-true n t.number below, above_trans n t.number ts (ltb-true n t.number below) k.0))
+    by false true below e ih = placed_none n o ts h (none_above n ts (subst (λ (m : ℕ). AreAbove m ts) (sym (eqb-true n t.number e)) k.0))
+    by false false below e ih = block_apart t (placed n o ts) n (λ q. let m = eq-eqb n t.number (sym q) in let x = sym e ∙ m in cc) ∙ ih
+
+-- a number is noted, or has no block set before or after
+abbrev pub Notes : Sets → ℕ → Option (Statement PlainSet) → List ℕ → List ℕ → Type 0
+Notes sets n o old new = (new ≡ old ++ n ∷ []) ⊎ ((new ≡ old) × HasNoBlock sets n o)
+
+-- those that were noted before still are
+pub notes_stay : (sets : Sets) (n : ℕ) (o : Option (Statement PlainSet)) (old new : List ℕ) → Notes sets n o old new → (m : ℕ) → Contains old m → Contains new m
+notes_stay sets n o old new (inl e) m c = subst (λ (ns : List ℕ). Contains ns m) (sym e) (Contains-append_left old (n ∷ []) m c)
+notes_stay sets n o old new (inr x) m c = subst (λ (ns : List ℕ). Contains ns m) (sym x.0) c
+
+noted_put : (n : ℕ) (o : Option (Statement PlainSet)) (ts us : List (Live PlainSet)) (sets : Sets) (old new : List ℕ) → AreInOrder ts → us ≡ placed n o ts →
+    Notes sets n o old new → AreOfUnchanged ts sets old → AreOfUnchanged us sets new
+noted_put n o ts us sets old new order h notes k = record { each = λ m. by m (cases_eq n m) notes (k.each m) }
+  where
+    by : (m : ℕ) → (n ≡ m) ⊎ (n ≢ m) → Notes sets n o old new → Contains old m ⊎ (sets m ≡ block_at ts m) → Contains new m ⊎ (sets m ≡ block_at us m)
+    by m (inl q) (inl e) w = inl (subst (λ (ns : List ℕ). Contains ns m) (sym e) (subst (Contains (old ++ n ∷ [])) q (Contains-push old n)))
+    by m (inl q) (inr x) w =
+        inr (subst (λ (i : ℕ). sets i ≡ block_at us i) q ((x.1).noted ∙ sym (ap (λ (xs : List (Live PlainSet)). block_at xs n) h ∙ none_placed n o ts order (x.1).stated)))
+    by m (inr q) y (inl c) = inl (notes_stay sets n o old new y m c)
+    by m (inr q) y (inr e) = inr (e ∙ sym (ap (λ (xs : List (Live PlainSet)). block_at xs m) h ∙ block_placed n m o ts q))
+
+pub noted_more : (ts : List (Live PlainSet)) (sets : Sets) (old new : List ℕ) → ((m : ℕ) → Contains old m → Contains new m) → AreOfUnchanged ts sets old → AreOfUnchanged ts sets new
+noted_more ts sets old new more k = record { each = λ m. by m (k.each m) }
+  where
+    by : (m : ℕ) → Contains old m ⊎ (sets m ≡ block_at ts m) → Contains new m ⊎ (sets m ≡ block_at ts m)
+    by m (inl c) = inl (more m c)
+    by m (inr e) = inr e
+
+-- whether or not memory ran out
+pub noted_placed : {E : Type 0} (n : ℕ) (o : Option (Statement PlainSet)) (ts us : List (Live PlainSet)) (sets : Sets) (old new : List ℕ) (r : Result (Unit {0}) E) → AreInOrder ts → OnOk r (us ≡ placed n o ts) → OnErr r (us ≡ ts) →
+    Notes sets n o old new → AreOfUnchanged ts sets old → AreOfUnchanged us sets new
+noted_placed n o ts us sets old new (Ok x) order h k notes w = noted_put n o ts us sets old new order h notes w
+noted_placed n o ts us sets old new (Err x) order h k notes w =
+    subst (λ (xs : List (Live PlainSet)). AreOfUnchanged xs sets new) (sym k) (noted_more ts sets old new (notes_stay sets n o old new notes) w)
+
+-- ---- the block set of a number
 
 pub absent_block : (n : ℕ) (xs : List Stated) (k : ℕ) → AreInOrder (map live_of xs) → k ≡ place_in n (map live_of xs) → is_number n (slice_get (map live_of xs) k) ≡ false → block_at (map live_of xs) n ≡ None
 absent_block n [] k a e f = refl
@@ -98,9 +127,6 @@ rest_of n i ns (suc k, low, e) h = (k, omega (arith, low), e)
 pub record AreSettledBefore (ts : List (Live PlainSet)) (sets : Sets) (changed : List ℕ) (at : ℕ) : Type 0 where
   pub each : (n : ℕ) → Contains (drop at changed) n ⊎ (sets n ≡ block_at ts n)
 
-pub settled_none : (ts : List (Live PlainSet)) (sets : Sets) (changed : List ℕ) → AreOfUnchanged ts sets changed → AreSettledBefore ts sets changed 0
-settled_none ts sets changed h = record { each = h.each }
-
 module _ (ts : List (Live PlainSet)) (old new : Sets) (changed : List ℕ) (at number : ℕ) (low : at < length changed) (is : number ≡ get_or changed at number)
     (others : (n : ℕ) → nat_eq number n ≡ false → new n ≡ old n) where
   apart : (n : ℕ) → nat_eq number n ≡ false → number ≢ n
@@ -123,19 +149,6 @@ module _ (ts : List (Live PlainSet)) (old new : Sets) (changed : List ℕ) (at n
       by n true e w = inl (subst (Contains changed) (sym is ∙ eqb-true number n e) (Contains-get_or changed at number low))
       by n false e (inl c) = inl (subst (λ (ns : List ℕ). Contains ns n) (take-append-drop at changed) (Contains-append_right (take at changed) (drop at changed) n c))
       by n false e (inr w) = inr (others n e ∙ w)
-
-pub settled_all : (ts : List (Live PlainSet)) (sets : Sets) (changed : List ℕ) (at : ℕ) → length changed ≤ at → AreSettledBefore ts sets changed at → AreOf ts sets
-settled_all ts sets changed at low h = record { each = λ n. by n (h.each n) }
-  where
-    by : (n : ℕ) → Contains (drop at changed) n ⊎ (sets n ≡ block_at ts n) → sets n ≡ block_at ts n
-    by n (inl c) = absurd (nobody (subst (λ (ns : List ℕ). Contains ns n) (drop_all at changed low) c))
-      where
-        nobody : Contains [] n → ⊥
-        nobody w = omega (arith, w.1)
-    by n (inr e) = e
-
-pub noted_of : (ts : List (Live PlainSet)) (sets : Sets) (changed : List ℕ) → AreOf ts sets → AreOfUnchanged ts sets changed
-noted_of ts sets changed h = record { each = λ n. inr (h.each n) }
 
 -- ---- one is restated
 

@@ -22,7 +22,7 @@ some_one e = cc
 
 -- ---- block sets of b-threads
 
-own_empty : (t : Live PlainSet) → is_empty t.statement.block ≡ true → own_set t ≡ None
+pub own_empty : (t : Live PlainSet) → is_empty t.statement.block ≡ true → own_set t ≡ None
 own_empty t h = ap (λ (b : Bool). if b then None else Some t.statement.block) h
 
 own_some : (t : Live PlainSet) → is_empty t.statement.block ≡ false → own_set t ≡ Some t.statement.block

@@ -15,7 +15,7 @@ use crate::asking::blocker;
 use crate::block_sets::Blocks;
 use crate::heeds::Heeds;
 use crate::selecting::{choose, enabled};
-use crate::settling::settle;
+use crate::settling::{note_changed, settle};
 use crate::tally::Tally;
 use crate::{Choice, Enabled, Reach, SelectFault};
 use bp_draw::Draw;
@@ -96,7 +96,9 @@ impl Bench {
         ensures fits { (base : Base) (budget : ℕ) →
             Fits self.old base budget → Fits self.new base budget }
     {
-        self.changed.push(number)?;
+        // For the proof: what the list keeps.
+        self.live.keeps();
+        note_changed(&mut self.changed, &self.blocks, number, &statement)?;
         self.heeds.note(number)?;
         self.tally.mark(number)?;
         self.live.place(number, statement)

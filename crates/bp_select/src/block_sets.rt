@@ -135,6 +135,10 @@ impl Blocks {
     pub fn set_of(&self, number: u32) -> Option<&EventSet>
         ensures { option_map (λ s. s.now) result ≡ sets_in self.now.sets number }
     {
+        // Where there are no sets, nothing is hashed.
+        if self.sets.is_empty() {
+            return None;
+        }
         self.sets.get(&number)
     }
 

@@ -1,8 +1,9 @@
 //! The block sets that are noted become those of the live b-threads.
-ghost use Rattle.std.specs.Prelude.{◌≡◌, ℕ, List, false, map, nat_eq, option_map, OnOk};
+ghost use Rattle.std.specs.Prelude.{◌≡◌, ◌⊎◌, ◌++◌, ◌∷◌, [], ℕ, List, false, map, nat_eq, option_map, OnOk, OnErr};
 ghost use Rattle.js_frames.specs.Places.{plain_ground};
 ghost use Rattle.bp_select.specs.Blocks.{AreOf, block_at, own_set};
-ghost use Rattle.bp_select.specs.inner.BlockSets.{AreOfUnchanged};
+ghost use Rattle.bp_thread.specs.Views.{plain_statement};
+ghost use Rattle.bp_select.specs.inner.BlockSets.{AreOfUnchanged, HasNoBlock, has_block};
 ghost use Rattle.bp_known.specs.Known.{AreKnown, sets_in};
 ghost use Rattle.bp_live.specs.Lives.{live_of};
 ghost use Rattle.bp_live.specs.Places.{AreInOrder};
@@ -11,12 +12,13 @@ ghost use Rattle.bp_select.specs.inner.Counted.{plain_tally};
 ghost use Rattle.bp_run.specs.Selecting.{Live};
 ghost use Rattle.js_value.specs.Value.{PlainSet};
 
-use crate::asking::is_empty_set;
+use crate::asking::{is_empty, is_empty_set};
 use crate::block_sets::Blocks;
 use crate::tally::Tally;
 use bp_known::is_same;
 use bp_live::{Stated, is_at, place_of};
 use bp_log::Memory;
+use bp_thread::Statement;
 use js_frames::Ground;
 use js_value::EventSet;
 use std::alloc::Global;
@@ -42,6 +44,35 @@ fn block_of(live: &[Stated], number: u32) -> Option<&EventSet>
         return None;
     }
     own_set(&live[at])
+}
+
+/// Whether the statement, if there is one, has a block set that is not plainly empty.
+fn has_block(statement: &Option<Statement>) -> bool
+    ensures { result ≡ has_block (option_map plain_statement statement.now) }
+{
+    match statement {
+        None => false,
+        Some(statement) => !is_empty(&statement.block),
+    }
+}
+
+/// Notes the number, whose b-thread states this from now on, as one whose block set may have changed.
+/// Where no block set of it is noted and it states none, nothing is done.
+pub(crate) fn note_changed(
+    changed: &mut Vec<u32>,
+    blocks: &Blocks,
+    number: u32,
+    statement: &Option<Statement>,
+) -> Result<(), Memory>
+    ensures noted { OnOk result ((changed.new.items ≡ changed.old.items ++ number ∷ [])
+        ⊎ ((changed.new.items ≡ changed.old.items)
+        × HasNoBlock (sets_in blocks.now.sets) number (option_map plain_statement statement.now))) }
+    ensures failed { OnErr result (changed.new.items ≡ changed.old.items) }
+{
+    if blocks.set_of(number).is_some() || has_block(statement) {
+        changed.push(number)?;
+    }
+    Ok(())
 }
 
 /// The block set of this number becomes that of its b-thread. Where it is made alike, nothing is

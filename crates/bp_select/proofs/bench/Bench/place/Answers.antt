@@ -1,26 +1,32 @@
-use Rattle.std.proofs.Common.{option_map, refl, subst, sym}
+use Rattle.std.proofs.Common.{ℕ, List, Contains, option_map, subst, sym}
 use Rattle.bp_thread.specs.Views.{plain_statement}
 use Rattle.bp_known.specs.Known.{sets_in}
 use Rattle.bp_select.specs.Benches.{Fits, PlainBench}
 use Rattle.bp_select.specs.inner.Counted.{plain_tally}
 use Rattle.bp_select.proofs.HeedLemmas.{kept_more, kept_placed}
+use Rattle.bp_select.proofs.Noting.{notes_stay}
 use Rattle.bp_select.proofs.TallyLemmas.{tallied_when}
 use Rattle.bp_select.proofs.bench.Bench.place.Goals as goal
 
+pub invariant_of-self : goal.invariant_of-self
+invariant_of-self c =
+    kept_more c.self.inside.live.live (sets_in c.self.inside.blocks.sets) c.self.inside.changed.items c.note_changed.new.changed.items c.self.inside.heeds c.self.inside.heeds
+    (λ n h. subst (λ (ns : List ℕ). Contains ns n) (sym c.in_err-note_changed.ensures.failed) h) (λ vs h. h) c.self.invariant
+
 pub invariant_of-self-in_err-note : goal.invariant_of-self-in_err-note
 invariant_of-self-in_err-note c =
-    kept_more c.args.number c.self.inside.live.live c.self.inside.live.live (sets_in c.self.inside.blocks.sets) c.self.inside.changed.items c.push.new.self.items
-    c.self.inside.heeds c.note.new.self refl c.in_ok-push.ensures.items c.note.ensures.others c.self.invariant
+    kept_more c.self.inside.live.live (sets_in c.self.inside.blocks.sets) c.self.inside.changed.items c.note_changed.new.changed.items c.self.inside.heeds c.note.new.self
+    (notes_stay _ _ _ _ _ c.in_ok-note_changed.ensures.noted) c.note.ensures.others c.self.invariant
 
 pub invariant_of-self-in_err-mark : goal.invariant_of-self-in_err-mark
 invariant_of-self-in_err-mark c =
-    kept_more c.args.number c.self.inside.live.live c.self.inside.live.live (sets_in c.self.inside.blocks.sets) c.self.inside.changed.items c.push.new.self.items
-    c.self.inside.heeds c.note.new.self refl c.in_ok-push.ensures.items c.note.ensures.others c.self.invariant
+    kept_more c.self.inside.live.live (sets_in c.self.inside.blocks.sets) c.self.inside.changed.items c.note_changed.new.changed.items c.self.inside.heeds c.note.new.self
+    (notes_stay _ _ _ _ _ c.in_ok-note_changed.ensures.noted) c.note.ensures.others c.self.invariant
 
 pub invariant_of-self-2 : goal.invariant_of-self-2
 invariant_of-self-2 c =
-    kept_placed c.args.number (option_map plain_statement c.args.statement) c.self.inside.live.live c.place.new.self.live (sets_in c.self.inside.blocks.sets) c.self.inside.changed.items c.push.new.self.items
-    c.self.inside.heeds c.note.new.self c.place.result c.place.ensures.placed c.place.ensures.failed c.in_ok-push.ensures.items c.in_ok-note.ensures.noted c.note.ensures.others c.self.invariant
+    kept_placed c.args.number (option_map plain_statement c.args.statement) c.self.inside.live.live c.place.new.self.live (sets_in c.self.inside.blocks.sets) c.self.inside.changed.items c.note_changed.new.changed.items
+    c.self.inside.heeds c.note.new.self c.place.result c.keeps.ensures c.place.ensures.placed c.place.ensures.failed c.in_ok-note_changed.ensures.noted c.in_ok-note.ensures.noted c.note.ensures.others c.self.invariant
 
 pub returns-in_err-mark-clause-fits : goal.returns-in_err-mark-clause-fits
 returns-in_err-mark-clause-fits c = λ base budget h.
