@@ -1,8 +1,8 @@
 //! `bp`: runs behavioral programs.
 #![tactic(auto)]
 
-use bp_base::{FileWorld, StreamSink};
 use bp_cli::{NO_MEMORY, command};
+use bp_system::{FileWorld, StreamSink};
 use std::process::ExitCode;
 use std::{env, io};
 

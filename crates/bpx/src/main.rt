@@ -1,7 +1,7 @@
 //! `bpx`: says what of behavioral programs is to be known beside their runs.
 #![tactic(auto)]
 
-use bp_base::{FileWorld, StreamSink};
+use bp_system::{FileWorld, StreamSink};
 use bpx_cli::{NO_MEMORY, answer};
 use std::process::ExitCode;
 use std::{env, io};

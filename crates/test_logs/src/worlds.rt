@@ -1,8 +1,9 @@
 //! Sources, sinks and worlds, in memory and of the system.
 use bp_base::{
-    Failed, FileWorld, MemorySink, MemorySource, MemoryWorld, ReadError, Sink, Source, StreamSink,
-    World, WorldError, read_all, write_all,
+    Failed, MemorySink, MemorySource, MemoryWorld, ReadError, Sink, Source, World, WorldError,
+    read_all, write_all,
 };
+use bp_system::{FileWorld, StreamSink};
 use std::alloc::Global;
 use std::process::Abort;
 use std::test::Fail;

@@ -1,7 +1,7 @@
-//! The system's files and streams: the trusted edge. They tell nothing of content or of names.
+//! The files and streams of the system.
 ghost use Rattle.std.specs.Prelude.{◌≡◌, ◌<◌, ◌≤◌, length, IfSome};
 
-use crate::{Failed, Sink, Source, World, WorldError};
+use bp_base::{Failed, Sink, Source, World, WorldError};
 use std::fs::{self, File};
 use std::io::{ErrorKind, Read, Write};
 use std::rt::Files;
