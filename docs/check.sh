@@ -1,6 +1,6 @@
 #!/bin/sh
 # Looks whether the pages agree with the crates: the order of crates.txt, the headings and rows of docs/MAP.md, and the files of
-# definitions, laws and clauses that the pages name. Proves nothing and takes some seconds. Ends with a line
+# definitions, laws and clauses, the scripts and the pages that they name. Proves nothing and takes some seconds. Ends with a line
 # `N passed, M failed`.
 cd "$(dirname "$0")/.." || exit 1
 passed=0 failed=0
@@ -49,6 +49,18 @@ says "pages: files of crates that are not there" "$(
     # shellcheck disable=SC2086
     grep -oh '`[a-z]*_[a-z]*/\(src\|specs\|proofs\)/[A-Za-z_/.]*`' $pages | tr -d '`' | sort -u | while read -r file; do
         [ -e "crates/$file" ] || [ -e "crates/$file.antt" ] || echo "$file"
+    done)"
+
+# Every script, page and example that a page names by its path, and every script at the top.
+says "pages: files that are not there" "$(
+    # shellcheck disable=SC2086
+    {
+        grep -ohE '(^|[^A-Za-z0-9_/])(docs|tests|bench|examples|editor|[.]ci)/[A-Za-z0-9_./-]*[A-Za-z0-9]' $pages | grep -oE '[.a-z].*'
+        grep -ohE 'sh [.]/[a-z]+' $pages | sed 's/^sh //'
+        grep -ohE 'cd crates/[a-z_]+' $pages | sed 's/^cd //'
+        grep -ohE '`[A-Z]+[.]md`' $pages | tr -d '`'
+    } | sort -u | while read -r file; do
+        [ -e "$file" ] || echo "$file"
     done)"
 
 # Every name of code in a page, in backticks, stands somewhere in the crates: with `_` in all pages, and types, files and definitions
