@@ -99,9 +99,11 @@ pub fn command<R: Threads + Wait + Sync, W: World, K: Sink>(
         K.written K.faults in Ends (command_of (map string_bytes words.now))
         (seen world.old out.old) (seen world.new out.new) result.code result.note result.records }
 
-    // A refused program comes to no other end, except for a fault of reading or out of memory.
-    ensures refuses { Refuses (command_of (map string_bytes words.now)) (W.holds world.old)
-        result.code }
+    // A refused program comes to no other end, except for a fault of reading or out of memory, and
+    // no other name is asked for.
+    ensures refuses { let seen = outside W.holds W.asked W.read_faults W.write_faults
+        K.written K.faults in Refuses (command_of (map string_bytes words.now))
+        (seen world.old out.old) (seen world.new out.new) result.code }
 
     ensures counts { let seen = outside W.holds W.asked W.read_faults W.write_faults
         K.written K.faults in NeverFalls (seen world.old out.old) (seen world.new out.new) }
