@@ -138,9 +138,9 @@ impl Session {
             ≡ Some result.0.records }
         ensures heard { EachHeard S.left inputs.items result.1.items result.0.records }
         ensures back { ComeBack S.left S.faults inputs.items result.1.items result.0.records }
-        ensures ends { EndsAs L.written L.faults K.faults header.now.options.wait
-            (text_of program header.now.options) (header_text Second header.now)
-            out.old out.new (given K.written out.old log.old)
+        ensures ends { EndsAs L.written L.faults K.faults
+            (code_of program header.now.options) header.now.options
+            (header_text Second header.now) out.old out.new (given K.written out.old log.old)
             (given K.written out.new log.new) S.left S.faults inputs.items result.1.items
             result.0.records result.0.end }
 
