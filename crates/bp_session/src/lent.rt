@@ -187,14 +187,13 @@ fn serve_parts<S: Source + Drop, R: Threads + Wait + Sync + Clock, K: Sink, L: S
 
 /// Serves the run to its end without injectors: no thread is made, no lock is taken and no bell is rung.
 /// The inputs, of which there are none, come back.
-pub(crate) fn serve_alone<S: Source + Drop, R: Threads + Wait + Sync + Clock, K: Sink, L: Sink, V: Shows>(
-    rt: &R,
-    alloc: Global,
-    inputs: Vec<S>,
-    parts: &mut Parts<S, V>,
-    out: &mut K,
-    log: &mut Option<L>,
-)
+pub(crate) fn serve_alone<
+    S: Source + Drop,
+    R: Threads + Wait + Sync + Clock,
+    K: Sink,
+    L: Sink,
+    V: Shows,
+>(rt: &R, alloc: Global, inputs: Vec<S>, parts: &mut Parts<S, V>, out: &mut K, log: &mut Option<L>)
     requires none { inputs.items ≡ [] }
     requires ready { IsReady L.written parts.old.core (given K.written out.old log.old)
         parts.old.telling }

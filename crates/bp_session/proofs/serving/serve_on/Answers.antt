@@ -9,7 +9,8 @@ use Rattle.bp_session.specs.inner.Serving.{WritesRun, StopsTurning, StopsServing
 use Rattle.bp_session.proofs.Served.{ready_on}
 use Rattle.bp_session.proofs.Hears.{heard_kept, go_none, go_both}
 use Rattle.bp_session.proofs.Causes.{writes_on, stops_at}
-use Rattle.bp_session.proofs.Rounds.{from_err, rest_of, serves_none, serves_both, serves_still, write_still, tells_then, writes_run, breaks_then, stops_then, turn_stops_then, on_err, untold_kept}
+use Rattle.bp_session.proofs.Tells.{write_still}
+use Rattle.bp_session.proofs.Rounds.{from_err, rest_of, serves_none, serves_both, serves_still, tells_then, writes_run, breaks_then, stops_then, turn_stops_then, on_err, untold_kept}
 use Rattle.bp_session.proofs.serving.serve_on.Goals as goal
 
 pub returns-in_err-write-clause-stops : goal.returns-in_err-write-clause-stops
