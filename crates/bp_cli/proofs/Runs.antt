@@ -152,7 +152,7 @@ module _ {K L S : Type 0} (written made_as : L → Option (List ℕ)) (log_fault
     pub made : IsLogMade written made_as log_faults before.holds asked.log first
     pub story : IsSome (text_of program header.options records)
     pub heard : EachHeard left sources back records
-    pub ends : EndsAs written log_faults print_faults header.options.wait (text_of program header.options) (header_text Second header) k m (record { printed = before.printed; log = first }) (record { printed = after.printed; log = last }) left faults sources back records end
+    pub ends : EndsAs written log_faults print_faults (code_of program header.options) header.options (header_text Second header) k m (record { printed = before.printed; log = first }) (record { printed = after.printed; log = last }) left faults sources back records end
     pub behind : PrintsBehind written (text_of program header.options) (header_text Second header) records before.printed after.printed first last
     pub held : IsLogHeld written before.holds asked.log last after.holds
 
@@ -192,7 +192,7 @@ module _ {K L S : Type 0} (written made_as : L → Option (List ℕ)) (log_fault
     -- the run that came of it
     ran_under : (end : Ending) → Served (header_of asked bytes) asked bytes program records end sources back k m first last before after → IsRunOf asked bytes records before after (ended_of end)
     ran_under (Ending.Verdict v) s =
-        let b = brought_to left faults before.holds v asked.options.wait asked.injectors sources back records s.opened s.heard s.ends.2 in
+        let b = brought_to left faults before.holds v asked.options.wait asked.injectors sources back records s.opened s.heard (λ waits quiet. (s.ends.2 waits quiet).0) in
         run_of (Ending.Verdict v) (ended_of (Ending.Verdict v)) ((asked.options.wait ≡ true) × IsQuiet v) s b (record {
           verdict = s.ends.0;
           told = wholly (Ending.Verdict v) s s.ends.1;
@@ -239,7 +239,7 @@ module _ {S : Type 0} (left : S → Option (List ℕ)) (faults : S → ℕ) wher
 module _ {K L S : Type 0} (written : L → Option (List ℕ)) (log_faults : L → ℕ) (print_faults : K → ℕ) (left : S → Option (List ℕ)) (faults : S → ℕ) where
   -- a failure of a run has its cause
   pub run_caused : (program : PlainProgram) (header : PlainHeader) (records : List Record) (sources back : List S) (k m : K) (printed printed_then : Option (List ℕ)) (first last : Option L) (before after : Outside) (end : Ending) →
-      EndsAs written log_faults print_faults header.options.wait (text_of program header.options) (header_text Second header) k m (record { printed = printed; log = first }) (record { printed = printed_then; log = last }) left faults sources back records end →
+      EndsAs written log_faults print_faults (code_of program header.options) header.options (header_text Second header) k m (record { printed = printed; log = first }) (record { printed = printed_then; log = last }) left faults sources back records end →
       ((j : ℕ) → BrokeAt left faults sources back records j → ReadFailed before after) → (Rose (print_faults k) (print_faults m) → WriteFailed before after) → (LogFails log_faults first last → WriteFailed before after) →
       IsCaused before after (ended_of end)
   run_caused program header records sources back k m printed printed_then first last before after (Ending.Verdict v) e r w l = tt
