@@ -43,7 +43,7 @@ written_all (Some x) start now w s n h =
 -- how a session ended whose output and whose log, if there is one, are in memory
 abbrev EndsAside : PlainOptions → PlainProgram → List Record → List ℕ → Store → Store → Option Store → Option Store → List Supply → List Supply → Ending → Type 0
 EndsAside o program records head start now old new sources back end =
-    EndsAs (λ (s : Store). Some s.written) (λ (s : Store). s.faults) (λ (s : Store). s.faults) o.wait (text_of program o) head start now (record { printed = Some start.written; log = old }) (record { printed = Some now.written; log = new })
+    EndsAs (λ (s : Store). Some s.written) (λ (s : Store). s.faults) (λ (s : Store). s.faults) (code_of program o) o head start now (record { printed = Some start.written; log = old }) (record { printed = Some now.written; log = new })
     (λ (s : Supply). Some s.left) (λ (s : Supply). s.faults) sources back records end
 
 module _ (o : PlainOptions) (is : o ≡ default_options) (program : PlainProgram) (records : List Record) where

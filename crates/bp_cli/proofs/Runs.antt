@@ -153,7 +153,7 @@ module _ {K L S : Type 0} (written made_as : L → Option (List ℕ)) (log_fault
     pub made : IsLogMade written made_as log_faults before.holds asked.log first
     pub story : IsSome (text_of program header.options records)
     pub heard : EachHeard left sources back records
-    pub ends : EndsAs written log_faults print_faults header.options.wait (text_of program header.options) (header_text Second header) k m (record { printed = before.printed; log = first }) (record { printed = after.printed; log = last }) left faults sources back records end
+    pub ends : EndsAs written log_faults print_faults (code_of program header.options) header.options (header_text Second header) k m (record { printed = before.printed; log = first }) (record { printed = after.printed; log = last }) left faults sources back records end
     pub behind : PrintsBehind written (text_of program header.options) (header_text Second header) records before.printed after.printed first last
     pub held : IsLogHeld written before.holds asked.log last after.holds
 
@@ -199,7 +199,7 @@ module _ {K L S : Type 0} (written made_as : L → Option (List ℕ)) (log_fault
     -- the run that came of it
     ran_under : (end : Ending) → Served (header_of asked bytes) asked bytes program records end sources back k m first last before after → IsRunOf asked bytes records before after (ended_of end)
     ran_under (Ending.Verdict v) s =
-        let b = brought_to left faults before.holds v asked.options.wait asked.injectors sources back records s.opened s.heard s.ends.2 in
+        let b = brought_to left faults before.holds v asked.options.wait asked.injectors sources back records s.opened s.heard (λ waits quiet. (s.ends.2 waits quiet).0) in
         run_of (Ending.Verdict v) (ended_of (Ending.Verdict v)) ((asked.options.wait ≡ true) × IsQuiet v) s b (whole_front (Ending.Verdict v) s s.ends.1) (record {
           verdict = s.ends.0;
           told = wholly (Ending.Verdict v) s s.ends.1;
@@ -209,7 +209,7 @@ module _ {K L S : Type 0} (written made_as : L → Option (List ℕ)) (log_fault
         })
     ran_under (Ending.Read j) s =
         let b = brought left faults before.holds asked.injectors sources back records s.opened s.heard in
-        run_of (Ending.Read j) (ended_of (Ending.Read j)) ⊥ s b (whole_front (Ending.Read j) s s.ends.1) (s.ends.0, wholly (Ending.Read j) s s.ends.1, breaks left faults before.holds asked.injectors sources back records j b.inputs s.opened b.under s.ends.2)
+        run_of (Ending.Read j) (ended_of (Ending.Read j)) ⊥ s b (whole_front (Ending.Read j) s s.ends.1) (s.ends.0, wholly (Ending.Read j) s s.ends.1, breaks left faults before.holds asked.injectors sources back records j b.inputs s.opened b.under s.ends.2, s.ends.3)
     ran_under Ending.Write s = run_of Ending.Write (ended_of Ending.Write) ⊥ s (brought left faults before.holds asked.injectors sources back records s.opened s.heard) s.ends.0.prints (partly Ending.Write s s.ends.0)
     ran_under Ending.LogWrite s = run_of Ending.LogWrite (ended_of Ending.LogWrite) ⊥ s (brought left faults before.holds asked.injectors sources back records s.opened s.heard) s.ends.0.prints (partly Ending.LogWrite s s.ends.0)
     ran_under Ending.Memory s = run_of Ending.Memory (ended_of Ending.Memory) ⊥ s (brought left faults before.holds asked.injectors sources back records s.opened s.heard) s.ends.prints (partly Ending.Memory s s.ends)
@@ -246,7 +246,7 @@ module _ {S : Type 0} (left : S → Option (List ℕ)) (faults : S → ℕ) wher
 module _ {K L S : Type 0} (written : L → Option (List ℕ)) (log_faults : L → ℕ) (print_faults : K → ℕ) (left : S → Option (List ℕ)) (faults : S → ℕ) where
   -- a failure of a run has its cause
   pub run_caused : (program : PlainProgram) (header : PlainHeader) (records : List Record) (sources back : List S) (k m : K) (printed printed_then : Option (List ℕ)) (first last : Option L) (before after : Outside) (end : Ending) →
-      EndsAs written log_faults print_faults header.options.wait (text_of program header.options) (header_text Second header) k m (record { printed = printed; log = first }) (record { printed = printed_then; log = last }) left faults sources back records end →
+      EndsAs written log_faults print_faults (code_of program header.options) header.options (header_text Second header) k m (record { printed = printed; log = first }) (record { printed = printed_then; log = last }) left faults sources back records end →
       ((j : ℕ) → BrokeAt left faults sources back records j → ReadFailed before after) → (Rose (print_faults k) (print_faults m) → WriteFailed before after) → (LogFails log_faults first last → WriteFailed before after) →
       IsCaused before after (ended_of end)
   run_caused program header records sources back k m printed printed_then first last before after (Ending.Verdict v) e r w l = tt

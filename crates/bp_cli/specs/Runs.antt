@@ -13,11 +13,12 @@ use Rattle.bp_log.specs.declared.version.Version.TheVariants.{Second}
 use Rattle.bp_log.specs.Records.{Complete, verdict_of, is_complete}
 use Rattle.bp_log.specs.declared.record.Record.{Record}
 use Rattle.bp_log.specs.declared.verdict.Verdict.{Verdict}
-use Rattle.bp_code.specs.Code.{text_of, records_alone}
+use Rattle.bp_code.specs.Code.{code_of, text_of, records_alone}
 use Rattle.bp_script.specs.Programs.{IsProgram}
 use Rattle.bp_hear.specs.Merges.{Merge}
 use Rattle.bp_log.specs.Verdicts.{IsQuiet}
 use Rattle.bp_args.specs.declared.command.Run.{Run}
+use Rattle.bp_session.specs.Reports.{HasNoVerdict}
 use Rattle.bp_replay.specs.Laws.{Retells}
 use Rattle.bp_cli.specs.declared.conclusion.Conclusion.{Conclusion}
 use Rattle.bp_cli.specs.declared.conclusion.Conclusion.TheVariants.{Ran, NotRead, NotWritten, NoMemory}
@@ -99,12 +100,13 @@ module _ (asked : Run) (bytes : List ℕ) (program : PlainProgram) (records : Li
         (λ text. (version : Version) → can_say version asked.options.wait ≡ true
         → Retells (log_text version (header_of asked bytes) records) text v)
 
-  -- how a run ends: with a verdict; without one where reading an injector failed, and all that was
-  -- recorded until then was told; or where writing failed or memory ran out
+  -- how a run ends: with a verdict; before it came to one, where reading an injector failed, and all
+  -- that was recorded until then was told; or where writing failed or memory ran out
   abbrev pub RunEnds : List (List ℕ) → Conclusion → Type 0
   RunEnds inputs (Ran v) = RunsTo inputs v
   RunEnds inputs NotRead =
       (is_complete records ≡ false) × TellsWhole × BreaksIn before.holds records inputs
+      × HasNoVerdict (code_of program asked.options) asked.options records
   RunEnds inputs NotWritten = TellsPartly
   RunEnds inputs NoMemory = TellsPartly
   RunEnds inputs _ = ⊥

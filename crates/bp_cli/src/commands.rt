@@ -19,9 +19,10 @@ use bp_base::{Sink, World};
 use std::alloc::Global;
 use std::sync::Wait;
 use std::thread::Threads;
+use std::time::Clock;
 
 /// Carries out the command, and says how it ended.
-fn carry_out<R: Threads + Wait + Sync, W: World, K: Sink>(
+fn carry_out<R: Threads + Wait + Sync + Clock, W: World, K: Sink>(
     rt: &R,
     alloc: Global,
     command: Command,
@@ -48,7 +49,7 @@ fn carry_out<R: Threads + Wait + Sync, W: World, K: Sink>(
 }
 
 /// Carries out the command that the words are, and says how it ended.
-fn conclude<R: Threads + Wait + Sync, W: World, K: Sink>(
+fn conclude<R: Threads + Wait + Sync + Clock, W: World, K: Sink>(
     rt: &R,
     alloc: Global,
     words: &[String],
@@ -74,7 +75,7 @@ fn conclude<R: Threads + Wait + Sync, W: World, K: Sink>(
 ///
 /// The words are those after the program's name: `run [OPTIONS] PROGRAM [INJECTOR]...`, `replay
 /// LOG`, `accept PROGRAM`, `large N` or `migrate LOG`.
-pub fn command<R: Threads + Wait + Sync, W: World, K: Sink>(
+pub fn command<R: Threads + Wait + Sync + Clock, W: World, K: Sink>(
     rt: &R,
     alloc: Global,
     words: &[String],
