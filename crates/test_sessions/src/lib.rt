@@ -8,6 +8,8 @@ mod endings;
 #[cfg(test)]
 mod many;
 #[cfg(test)]
+mod paced;
+#[cfg(test)]
 mod rows;
 #[cfg(test)]
 mod unwaited;
