@@ -7,6 +7,7 @@ use std::time::{Clock, Instant};
 const MOST_SECONDS: u64 = 1;
 
 /// When what waited was last due by the clock, or the run began.
+#[derive(Drop)]
 pub(crate) struct Pace {
     since: Option<Instant>,
 }
