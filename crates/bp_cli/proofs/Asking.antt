@@ -125,11 +125,11 @@ at_most_unloaded name program P before after e (inr h) = (program ∷ [], prefix
 
 -- a run whose program is refused asked for that alone
 pub refused_asked : (asked : Run) (before after : Option (List (List ℕ))) (refusal : Refusal) → AsksIn (Some (command.Run asked)) before after (Refused refusal) → WasAskedAtMost before asked.program after
-refused_asked asked before after refusal (names, (first, h)) = (names, (subst (λ (xs : List (List ℕ)). IsPrefix xs (asked.program ∷ [])) (sym first) (prefix_all (asked.program ∷ []))), h)
+refused_asked asked before after refusal (names, first, h) = (names, (subst (λ (xs : List (List ℕ)). IsPrefix xs (asked.program ∷ [])) (sym first) (prefix_all (asked.program ∷ []))), h)
 
 -- a refused run asked for its program
 pub log_refused : (asked : Run) (before after : Option (List (List ℕ))) (refusal : Refusal) → AsksIn (Some (command.Run asked)) before after (Refused refusal) → IsBeforeLog asked before after
-log_refused asked before after refusal (names, (first, h)) =
+log_refused asked before after refusal (names, first, h) =
     before_log asked.program asked.injectors asked.log 1 before after (subst (λ (xs : List (List ℕ)). WasAsked before xs after) first h)
 
 -- ---- others
