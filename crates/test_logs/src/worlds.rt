@@ -96,7 +96,7 @@ fn a_world_holds_what_was_written(rt: HostRuntime) -> Result<(), Fail> {
 #[test]
 fn a_file_of_the_system_is_written(rt: HostRuntime) -> Result<(), Fail> {
     let alloc = rt.alloc();
-    let mut world = FileWorld::new(rt.clone()?);
+    let mut world = FileWorld::new(rt.clone()?, rt.alloc());
     let mut output = world.create(WRITTEN)?;
     assert!(rt; write_all(&mut output, b"written").is_ok());
     world.close_output(WRITTEN, output);
@@ -111,7 +111,7 @@ fn a_file_of_the_system_is_written(rt: HostRuntime) -> Result<(), Fail> {
 fn a_file_of_the_system_is_read(rt: HostRuntime) -> Result<(), Fail> {
     let alloc = rt.alloc();
     fs::write(&rt, NAME, "bytes")?;
-    let mut world = FileWorld::new(rt.clone()?);
+    let mut world = FileWorld::new(rt.clone()?, rt.alloc());
     let mut input = world.open(NAME)?;
     assert!(rt; read_all(alloc, &mut input, 9)?.as_slice() == b"bytes".as_slice());
     world.close_input(input);
