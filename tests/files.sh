@@ -21,14 +21,17 @@ explain() {
     timeout "$most" "$BPX" "$@"
 }
 
-# what the runs are given: a script, its text, and the lines of an injector
+# give: makes a folder anew with what the runs of a test are given: two scripts, and the lines of an injector; beside it, what the first
+# script prints
 given=$got/given
-mkdir "$given" || exit 1
-echo 'bp.registerBThread("A", () => { bp.sync({request: bp.Event("e")}) })' > "$given/one.js"
-printf '%s\n' 'event ["e"]' 'done "A"' 'verdict quiet 1' > "$got/text"
-printf '["a",1]\n["a",2]\n' > "$given/lines"
-watching
-mv "$got/watching.js" "$given/"
+give() {
+    rm -rf "$given" && mkdir "$given" || return 1
+    echo 'bp.registerBThread("A", () => { bp.sync({request: bp.Event("e")}) })' > "$given/one.js"
+    printf '%s\n' 'event ["e"]' 'done "A"' 'verdict quiet 1' > "$got/printed"
+    printf '["a",1]\n["a",2]\n' > "$given/lines"
+    watching
+    cp "$got/watching.js" "$given/"
+}
 
 # sums: what stands in each file that was given
 sums() {
@@ -54,6 +57,7 @@ replays() {
 
 # a run with a closed stream prints what it should where a stream is open, ends as it should, and its log is whole
 closed_streams() {
+    give
     for streams in in out error all; do
         before=$(sums)
         rm -f "$got/log"
@@ -68,17 +72,18 @@ closed_streams() {
         status=$?
         what="closed_streams, $streams"
         case $streams in
-            in | error) cp "$got/text" "$got/wanted" ;;
+            in | error) cp "$got/printed" "$got/wanted" ;;
             out | all) : > "$got/wanted" ;;
         esac
         comes 0 '' || return 1
-        cp "$got/text" "$got/wanted"
+        cp "$got/printed" "$got/wanted"
         replays && unchanged || return 1
     done
 }
 
 # the same where there is a note: it is lost, the status is not, and no log is made
 closed_error() {
+    give
     echo 'let' > "$given/refused.js"
     before=$(sums)
     : > "$got/wanted"
@@ -93,6 +98,7 @@ closed_error() {
 
 # the program that explains, of a script and of a log
 closed_explaining() {
+    give
     program run --log "$given/log" "$given/one.js" > /dev/null 2> "$got/note" || return 1
     before=$(sums)
     for words in "check $given/one.js" "state $given/log" "why $given/log 1"; do
@@ -127,6 +133,7 @@ refuses() {
 
 # a log under another name of the script
 log_over_script() {
+    give
     ln -s one.js "$given/link.js"
     ln "$given/one.js" "$given/hard.js"
     for name in "$given/./one.js" "$given/link.js" "$given/hard.js"; do
@@ -137,6 +144,7 @@ log_over_script() {
 
 # a log under another name of an injector, which may be standard input
 log_over_injector() {
+    give
     ln -s lines "$given/link"
     ln "$given/lines" "$given/hard"
     for name in "$given/./lines" "$given/link" "$given/hard"; do
@@ -149,6 +157,7 @@ log_over_injector() {
 
 # a log into the file that standard output, standard error or standard input is
 log_over_stream() {
+    give
     echo old > "$given/stream"
     before=$(sums)
     for name in "$given/stream" "$given/./stream" /dev/stdout; do
@@ -166,17 +175,20 @@ log_over_stream() {
 
 # a pipe at the output takes both the text and the log
 log_into_pipe() {
+    give
     { program run --log /dev/stdout "$given/one.js" 2> "$got/note"; echo $? > "$got/status"; } | cat > "$got/both"
     [ "$(cat "$got/status")" -eq 0 ] && grep -q '^bp-log 2$' "$got/both" && grep -q '^event \["e"\]$' "$got/both"
 }
 
 # a log that can't be made
 log_nowhere() {
+    give
     refuses "$given" "$given/one.js" && refuses "$given/missing/log" "$given/one.js"
 }
 
 # an old log that is longer than the new one is gone, also where it was a link
 longer_log() {
+    give
     program run --log "$got/log" "$given/one.js" > "$got/trace" 2> "$got/note" || return 1
     cp "$got/log" "$got/alone"
     yes 'an old line' | head -n 10000 > "$given/old"
@@ -190,7 +202,7 @@ longer_log() {
 
 # a log is held by one run: another is refused it, and the first goes on; afterwards it is free
 held_log() (
-    cp "$given/watching.js" "$got/"
+    give
     begins watching "$got/fifo" || exit 1
     exec 5<> "$got/fifo"
     echo '["a",1]' >&5
@@ -212,17 +224,18 @@ held_log() (
     printf '%s\n' 'external ["a",1]' 'external ["a",2]' 'verdict quiet 2' > "$got/wanted"
     replays || exit 1
     program run --log "$got/log" "$given/one.js" > "$got/trace" 2> "$got/note" || exit 1
-    cp "$got/text" "$got/wanted"
+    cp "$got/printed" "$got/wanted"
     replays
 )
 
 # a device is no file that could be held: two runs at once have it as their log
 null_log_twice() (
+    give
     mkfifo "$got/waits" || exit 1
     program run --log /dev/null "$given/watching.js" "$got/waits" > "$got/first" 2> "$got/note" &
     first=$!
     exec 5> "$got/waits"
-    program run --log /dev/null "$given/one.js" > "$got/trace" 2> "$got/note" && cmp "$got/trace" "$got/text" || exit 1
+    program run --log /dev/null "$given/one.js" > "$got/trace" 2> "$got/note" && cmp "$got/trace" "$got/printed" || exit 1
     echo '["a",1]' >&5
     exec 5>&-
     wait "$first" || exit 1
@@ -231,17 +244,19 @@ null_log_twice() (
 
 # a FIFO with a reader takes a log
 fifo_log() (
+    give
     mkfifo "$got/pipe" || exit 1
     timeout "$most" cat "$got/pipe" > "$got/log" &
     reader=$!
-    program run --log "$got/pipe" "$given/one.js" > "$got/trace" 2> "$got/note" && cmp "$got/trace" "$got/text" || exit 1
+    program run --log "$got/pipe" "$given/one.js" > "$got/trace" 2> "$got/note" && cmp "$got/trace" "$got/printed" || exit 1
     wait "$reader" || exit 1
-    cp "$got/text" "$got/wanted"
+    cp "$got/printed" "$got/wanted"
     replays
 )
 
 # two FIFOs that the shell has open for both ways end once the shell closes them, if the program was started without them
 both_ways() (
+    give
     mkfifo "$got/one" "$got/two" || exit 1
     exec 3<> "$got/one" 4<> "$got/two"
     timeout 20 "$BP" run "$given/watching.js" "$got/one" "$got/two" 3>&- 4>&- > "$got/trace" 2> "$got/note" &
