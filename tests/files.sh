@@ -6,13 +6,13 @@
 # No file that a run was given is lost, by whatever name its log goes, also where standard streams are closed; a log has what its own
 # run wrote, whole, and no more; two runs don't share one. In each case the sums of all files before and after are compared. Runs the
 # programs that `sh ./bp` and `sh ./bpx` build, or those at the paths in BP and BPX. Takes some seconds, and nothing waits for longer
-# than a minute. Ends with a line `N passed, M failed`.
+# than two minutes. Ends with a line `N passed, M failed`.
 top=$(cd "$(dirname "$0")/.." && pwd) || exit 1
 . "$top/tests/common.sh"
 most=60
 
 if [ -z "$BPX" ]; then
-    sh "$top/bpx" --help > /dev/null || exit 1
+    sh "$top/bpx" check "$top/examples/hot_and_cold.js" > /dev/null || exit 1
     BPX=$top/crates/bpx/out/bpx
 fi
 
@@ -231,15 +231,16 @@ held_log() (
 # a device is no file that could be held: two runs at once have it as their log
 null_log_twice() (
     give
-    mkfifo "$got/waits" || exit 1
-    program run --log /dev/null "$given/watching.js" "$got/waits" > "$got/first" 2> "$got/note" &
-    first=$!
-    exec 5> "$got/waits"
-    program run --log /dev/null "$given/one.js" > "$got/trace" 2> "$got/note" && cmp "$got/trace" "$got/printed" || exit 1
+    rm -f "$got/text" "$got/fifo"
+    mkfifo "$got/text" "$got/fifo" || exit 1
+    program run --log /dev/null "$given/watching.js" "$got/fifo" > "$got/text" 2> "$got/note" &
+    run=$!
+    exec 4< "$got/text" 5<> "$got/fifo"
     echo '["a",1]' >&5
+    hears 'external ["a",1]' || exit 1
+    program run --log /dev/null "$given/one.js" > "$got/trace" 2> "$got/note" && cmp "$got/trace" "$got/printed" || exit 1
     exec 5>&-
-    wait "$first" || exit 1
-    printf '%s\n' 'external ["a",1]' 'verdict quiet 1' | cmp - "$got/first"
+    hears 'verdict quiet 1' && wait "$run"
 )
 
 # a FIFO with a reader takes a log
