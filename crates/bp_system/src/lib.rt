@@ -10,4 +10,3 @@ mod streams;
 
 pub use files::{FileSink, FileSource, FileWorld, StreamSink};
 pub use process::{Process, StartError, leave};
-pub use streams::StandardStreams;

@@ -3,7 +3,8 @@ ghost use Rattle.std.specs.Prelude.{◌≡◌, IfOk};
 ghost use Rattle.std.specs.Process.{exit_status};
 ghost use Rattle.bp_system.specs.Starts.{status_of, note_of};
 
-use crate::{FileWorld, StandardStreams};
+use crate::FileWorld;
+use crate::streams::StandardStreams;
 use bp_base::World;
 use std::alloc::AllocError;
 use std::fs::File;

@@ -11,7 +11,7 @@ const NOTHING: &str = "/dev/null";
 /// The system gives a file that is opened the lowest number that is free, and the streams have the lowest three. So
 /// without this, the first file of a program whose output is closed would be taken for its output.
 #[derive(Drop)]
-pub struct StandardStreams {
+pub(crate) struct StandardStreams {
     _first: File,
     _second: File,
     _third: File,
@@ -19,7 +19,7 @@ pub struct StandardStreams {
 
 impl StandardStreams {
     /// Opens those that are closed. To be called before anything else is opened.
-    pub fn occupy<R: Files<File = File>>(rt: &R) -> io::Result<StandardStreams> {
+    pub(crate) fn occupy<R: Files<File = File>>(rt: &R) -> io::Result<StandardStreams> {
         let mut options = File::options();
         options.read(true).write(true);
         Ok(StandardStreams {
