@@ -1,5 +1,5 @@
-# What the scripts of this folder begin with, which are run by hand: the built program, the one of `sh ./bp` or at the path in BP, a
-# folder that goes at the end, and how a list of functions is tried. `top` is the top of the repository.
+# What the scripts of this folder begin with, most of which are run by hand: the built program, the one of `sh ./bp` or at the path in
+# BP, a folder that goes at the end, and how a list of functions is tried. `top` is the top of the repository.
 got=$(mktemp -d) || exit 1
 trap 'rm -rf "$got"' EXIT
 

@@ -3,15 +3,21 @@ use bp_base::{
     Failed, MemorySink, MemorySource, MemoryWorld, ReadError, Sink, Source, World, WorldError,
     read_all, write_all,
 };
-use bp_system::{FileWorld, StreamSink};
+use bp_system::{FileWorld, Process, StreamSink, leave};
 use std::alloc::Global;
-use std::process::Abort;
+use std::process::{Abort, ExitCode};
 use std::test::Fail;
 use std::{fs, io};
 
 const NAME: &str = "bp_base_test";
 
 const WRITTEN: &str = "bp_base_written";
+
+const GIVEN: &str = "bp_base_given";
+
+const LINK: &str = "bp_base_link";
+
+const HELD: &str = "bp_base_held";
 
 /// Five bytes, read to their end within a limit, where a call fails; and how often the source failed.
 fn read_is(
@@ -96,7 +102,7 @@ fn a_world_holds_what_was_written(rt: HostRuntime) -> Result<(), Fail> {
 #[test]
 fn a_file_of_the_system_is_written(rt: HostRuntime) -> Result<(), Fail> {
     let alloc = rt.alloc();
-    let mut world = FileWorld::new(rt.clone()?);
+    let mut world = FileWorld::new(rt.clone()?, rt.alloc());
     let mut output = world.create(WRITTEN)?;
     assert!(rt; write_all(&mut output, b"written").is_ok());
     world.close_output(WRITTEN, output);
@@ -111,13 +117,53 @@ fn a_file_of_the_system_is_written(rt: HostRuntime) -> Result<(), Fail> {
 fn a_file_of_the_system_is_read(rt: HostRuntime) -> Result<(), Fail> {
     let alloc = rt.alloc();
     fs::write(&rt, NAME, "bytes")?;
-    let mut world = FileWorld::new(rt.clone()?);
+    let mut world = FileWorld::new(rt.clone()?, rt.alloc());
     let mut input = world.open(NAME)?;
     assert!(rt; read_all(alloc, &mut input, 9)?.as_slice() == b"bytes".as_slice());
     world.close_input(input);
     fs::remove_file(&rt, NAME)?;
     assert!(rt; world.open(NAME).err() == Some(WorldError::Failed));
     Ok(())
+}
+
+/// By no name, also once it is closed; what it held is there still.
+#[test]
+fn a_file_that_was_opened_is_not_written(rt: HostRuntime) -> Result<(), Fail> {
+    fs::write(&rt, GIVEN, "given")?;
+    fs::hard_link(&rt, GIVEN, LINK)?;
+    let mut world = FileWorld::new(rt.clone()?, rt.alloc());
+    let input = world.open(GIVEN)?;
+    assert!(rt; world.create("./bp_base_given").err() == Some(WorldError::Failed));
+    world.close_input(input);
+    assert!(rt; world.create(LINK).err() == Some(WorldError::Failed));
+    assert!(rt; fs::read(&rt, GIVEN)?.as_slice() == b"given".as_slice());
+    fs::remove_file(&rt, LINK)?;
+    fs::remove_file(&rt, GIVEN)?;
+    Ok(())
+}
+
+/// And is empty for the next.
+#[test]
+fn a_file_is_written_by_one_at_a_time(rt: HostRuntime) -> Result<(), Fail> {
+    let mut world = FileWorld::new(rt.clone()?, rt.alloc());
+    let mut other = FileWorld::new(rt.clone()?, rt.alloc());
+    let mut output = world.create(HELD)?;
+    assert!(rt; write_all(&mut output, b"held").is_ok());
+    assert!(rt; other.create(HELD).err() == Some(WorldError::Failed));
+    assert!(rt; fs::read(&rt, HELD)?.as_slice() == b"held".as_slice());
+    world.close_output(HELD, output);
+    let empty = other.create(HELD)?;
+    assert!(rt; fs::read(&rt, HELD)?.is_empty());
+    other.close_output(HELD, empty);
+    fs::remove_file(&rt, HELD)?;
+    Ok(())
+}
+
+#[test]
+fn a_program_begins_and_ends(rt: HostRuntime) -> Result<ExitCode, Fail> {
+    let mut process = Process::begin(&rt)?;
+    assert!(rt; process.world.open("bp_base_absent").err() == Some(WorldError::Failed));
+    Ok(leave(&rt, 0, ""))
 }
 
 #[test]
