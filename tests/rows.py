@@ -43,10 +43,12 @@ def unescaped(text):
 
 
 def times(content, count):
-    """The content so many times, with the number of each, from 0, in the place of `{i}`."""
-    if b"{i}" not in content:
+    """The content so many times, with the number of each, from 0, in the place of `{i}`, the next in that of `{i+1}`, and so on."""
+    place = re.compile(rb"\{i([+-]\d+)?\}")
+    if count == 1 or not place.search(content):
         return content * count
-    return b"".join(content.replace(b"{i}", b"%d" % number) for number in range(count))
+    numbered = lambda number: place.sub(lambda found: b"%d" % (number + int(found[1] or 0)), content)
+    return b"".join(map(numbered, range(count)))
 
 
 class Block:
