@@ -63,7 +63,7 @@ class Block:
                 escaped = True
             elif word == "repeat" and words:
                 count = int(words.pop(0))
-            elif word in ("starts", "has", "ends"):
+            elif word in ("starts", "has", "ends", "any"):
                 self.mode = word
             elif word in ("as", "lines") and words:
                 self.mode, self.of = word, words.pop(0)
@@ -109,6 +109,8 @@ class Part:
         self.path, self.line, self.title = path, line, title
         self.steps = list(shared.steps) if shared else []
         self.choices = list(shared.choices) if shared else []
+        # (a file of which the row is done with each front)
+        self.fronts = shared.fronts if shared else None
         self.seconds = shared.seconds if shared else MOST_SECONDS
         self.is_row = shared is not None
 
@@ -145,6 +147,8 @@ class Part:
             self.more(words, content)
         elif verb == "for":
             self.choices.append([words[:1] + [word] for word in words[1:]])
+        elif verb == "fronts":
+            self.fronts = words[0]
         elif verb == "within":
             self.seconds = int(words[0])
         elif verb == "run":
@@ -313,25 +317,44 @@ def look_at(runs, words, folder, seconds):
         write(name, came["out"], folder)
 
 
+def fronts_of(row):
+    """The sizes of the fronts that the row is done with: each, from nothing to all but the last byte, or none where it asks for none."""
+    if not row.fronts:
+        return [None]
+    with tempfile.TemporaryDirectory(prefix="rows-") as folder:
+        for step in itertools.takewhile(lambda step: not isinstance(step, Runs), row.steps):
+            step(folder)
+        return range(len(read(folder, row.fronts)))
+
+
+def done(row, programs, size, options):
+    """Does the row once, with a front of this size and these options: None, or why it does not hold."""
+    at, said = row.line, "" if size is None else f" (with {size} bytes of {row.fronts})"
+    with tempfile.TemporaryDirectory(prefix="rows-") as folder:
+        try:
+            for step in row.steps:
+                if not isinstance(step, Runs):
+                    step(folder)
+                    continue
+                if size is not None and at == row.line:
+                    write(row.fronts, read(folder, row.fronts)[:size], folder)
+                for at, (program, *words) in step.all:
+                    if words[:1] == ["run"] and program == "bp":
+                        words[1:1] = options
+                    said = f" ({shlex.join([program, *words])})" if size is None else said
+                    look_at(step, [programs[program], *words], folder, row.seconds)
+        except (Failed, Wrong, OSError) as error:
+            return f"{os.path.relpath(row.path, TOP)}:{at}: {row.title}{said}\n{error}"
+    return None
+
+
 def holds(row, programs):
     """None, or why the row does not hold for these programs."""
-    for choice in itertools.product(*row.choices):
-        options = [word for pair in choice for word in pair]
-        at = row.line
-        with tempfile.TemporaryDirectory(prefix="rows-") as folder:
-            try:
-                for step in row.steps:
-                    if not isinstance(step, Runs):
-                        step(folder)
-                        continue
-                    for at, (program, *words) in step.all:
-                        if words[:1] == ["run"] and program == "bp":
-                            words[1:1] = options
-                        said = shlex.join([program, *words])
-                        look_at(step, [programs[program], *words], folder, row.seconds)
-            except (Failed, Wrong, OSError) as error:
-                what = f" ({said})" if at != row.line else ""
-                return f"{os.path.relpath(row.path, TOP)}:{at}: {row.title}{what}\n{error}"
+    for size in fronts_of(row):
+        for choice in itertools.product(*row.choices):
+            why = done(row, programs, size, [word for pair in choice for word in pair])
+            if why is not None:
+                return why
     return None
 
 
