@@ -1,15 +1,7 @@
-//! Tests of `bpx` over a world in memory: mistakes in programs, and what is said of each.
+//! Tests of `bpx` over a world in memory of which a call fails.
 #![tactic(auto)]
 
 #[cfg(test)]
-mod mistakes;
-#[cfg(test)]
-mod seeds;
-#[cfg(test)]
-mod states;
-#[cfg(test)]
-mod tables;
-#[cfg(test)]
-mod whys;
+mod outside;
 #[cfg(test)]
 mod world;

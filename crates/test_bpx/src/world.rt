@@ -14,52 +14,38 @@ pub struct Said {
     /// The note of the end.
     pub note: String,
     /// What was printed.
-    pub printed: String,
+    pub printed: Vec<u8>,
 }
 
-/// What is answered to these words, which stand between blanks, in a world that holds these texts under their names. Of the calls
-/// to the world and to the output these fail.
+impl Said {
+    /// Whether the end has this status and this note, and nothing was printed.
+    pub fn only_ended(&self, status: u8, note: &str) -> bool {
+        self.status == status && self.note.as_str() == note && self.printed.is_empty()
+    }
+}
+
+/// What is answered to these words, which stand between blanks, in a world that holds this text under this name. Of the calls
+/// to the world and to the output the one with this number fails, and none where it is 0.
 pub fn said_of<R: Threads + Sync>(
     rt: &R,
     alloc: Global,
     words: &str,
-    held: &[(&str, &str)],
-    world_fails: &[u64],
-    output_fails: &[u64],
+    held: (&str, &str),
+    fails: (u64, u64),
 ) -> Result<Said, Fail> {
     let mut all = Vec::new(alloc);
     for word in words.split(" ") {
         all.push(word.to_string(alloc)?)?;
     }
-    let mut world = MemoryWorld::new(alloc, 1_000_000, world_fails.to_vec(alloc)?);
-    for (name, text) in held {
-        world.hold(name.to_string(alloc)?, text.as_bytes().to_vec(alloc)?)?;
-    }
-    let mut out = MemorySink::new(alloc, 1_000_000, output_fails.to_vec(alloc)?)?;
+    let (name, text) = held;
+    let (world_call, output_call) = fails;
+    let mut world = MemoryWorld::new(alloc, 1_000_000, [world_call].to_vec(alloc)?);
+    world.hold(name.to_string(alloc)?, text.as_bytes().to_vec(alloc)?)?;
+    let mut out = MemorySink::new(alloc, 1_000_000, [output_call].to_vec(alloc)?)?;
     let end = answer(rt, alloc, &all, &mut world, &mut out);
-    let printed = std::str::from_utf8(out.written()).or(Err("no text"))?;
     Ok(Said {
         status: end.status(),
         note: end.note(alloc)?.into_string(),
-        printed: printed.to_string(alloc)?,
+        printed: out.written().to_vec(alloc)?,
     })
-}
-
-/// What is answered in a world that holds the script as `script.js`.
-pub fn said_in<R: Threads + Sync>(
-    rt: &R,
-    alloc: Global,
-    words: &str,
-    script: &str,
-    world_fails: &[u64],
-    output_fails: &[u64],
-) -> Result<Said, Fail> {
-    said_of(
-        rt,
-        alloc,
-        words,
-        &[("script.js", script)],
-        world_fails,
-        output_fails,
-    )
 }
