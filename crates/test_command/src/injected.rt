@@ -6,9 +6,14 @@ use std::process::Abort;
 use std::sync::Wait;
 use std::test::Fail;
 use std::thread::Threads;
+use std::time::Clock;
 
 /// What a replay of this log did.
-fn replayed<R: Threads + Wait + Sync>(rt: &R, alloc: Global, log: &[u8]) -> Result<Ran, Fail> {
+fn replayed<R: Threads + Wait + Sync + Clock>(
+    rt: &R,
+    alloc: Global,
+    log: &[u8],
+) -> Result<Ran, Fail> {
     let text = str::from_utf8(log).ok().ok_or("no text")?;
     ran_in(rt, alloc, "replay|l", holding(&[("l", text)]))
 }
@@ -92,7 +97,7 @@ fn merged(text: &[u8]) -> Option<bool> {
 
 /// A run of the two with a log, in which these calls fail, ends with this status and this note, and prints a
 /// front of a merge without its verdict.
-fn breaks<R: Threads + Wait + Sync + Abort>(
+fn breaks<R: Threads + Wait + Sync + Clock + Abort>(
     rt: &R,
     alloc: Global,
     held: Held<'_>,

@@ -6,6 +6,7 @@ use std::process::Abort;
 use std::sync::Wait;
 use std::test::Fail;
 use std::thread::Threads;
+use std::time::Clock;
 
 /// Two taps that a third b-thread makes take turns.
 const TAPS: &str = r#"bp.registerBThread("Add hot", function() {
@@ -62,7 +63,7 @@ fn a_write_that_fails_leaves_a_prefix(rt: HostRuntime) -> Result<(), Fail> {
     Ok(())
 }
 
-fn meets_read_fault<R: Threads + Wait + Sync + Abort>(
+fn meets_read_fault<R: Threads + Wait + Sync + Clock + Abort>(
     rt: &R,
     alloc: Global,
     words: &str,

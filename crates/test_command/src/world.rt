@@ -6,6 +6,7 @@ use std::alloc::Global;
 use std::sync::Wait;
 use std::test::Fail;
 use std::thread::Threads;
+use std::time::Clock;
 
 /// What a command did.
 #[derive(Debug, Drop)]
@@ -47,7 +48,7 @@ pub fn holding<'a>(files: &'a [(&'a str, &'a str)]) -> Held<'a> {
 }
 
 /// Runs `bp` with the words that stand between the `|` of the line.
-pub fn ran_in<R: Threads + Wait + Sync>(
+pub fn ran_in<R: Threads + Wait + Sync + Clock>(
     rt: &R,
     alloc: Global,
     line: &str,
