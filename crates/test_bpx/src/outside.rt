@@ -16,7 +16,7 @@ budget 1000
 steps 10
 injectors 0
 wait yes
-program 69
+program 70
 bp.registerBThread(\"A\", () => { bp.sync({request: bp.Event(\"a\")}); });
 sel [\"a\"]
 end quiet 1
