@@ -261,11 +261,13 @@ def rows_in(path):
     """The rows of a file."""
     with open(path, encoding="utf-8") as file:
         text = file.read()
-    part, rows, titles = Part(path, 0, None), [], set()
-    shared = part
+    shared, rows, titles = Part(path, 0, None), [], set()
+    part = shared
     for number, line, content in lines_of(text):
         try:
-            if line.startswith("row ") and not content and line not in titles:
+            if line.startswith("row "):
+                if content or line in titles:
+                    raise Wrong("a row has a title of its own, and its lines below")
                 part = Part(path, number, line[4:], shared)
                 rows.append(part)
                 titles.add(line)

@@ -2,6 +2,7 @@
 
 use bp_base::{MemorySink, MemoryWorld};
 use bp_cli::command;
+use bpx_cli::answer;
 use std::alloc::Global;
 use std::sync::Wait;
 use std::test::Fail;
@@ -47,6 +48,25 @@ pub fn holding<'a>(files: &'a [(&'a str, &'a str)]) -> Held<'a> {
     }
 }
 
+/// The words that stand between the `|` of the line.
+fn words_in(alloc: Global, line: &str) -> Result<Vec<String>, Fail> {
+    let mut words = Vec::new(alloc);
+    for word in line.split("|") {
+        words.push(word.to_string(alloc)?)?;
+    }
+    Ok(words)
+}
+
+fn world_of(alloc: Global, held: Held<'_>) -> Result<MemoryWorld, Fail> {
+    let mut world = MemoryWorld::new(alloc, 1_000_000, [held.world].to_vec(alloc)?);
+    for file in held.files {
+        let (name, text) = *file;
+        world.hold(name.to_string(alloc)?, text.as_bytes().to_vec(alloc)?)?;
+    }
+    world.fail(held.name.to_string(alloc)?, [held.call].to_vec(alloc)?)?;
+    Ok(world)
+}
+
 /// Runs `bp` with the words that stand between the `|` of the line.
 pub fn ran_in<R: Threads + Wait + Sync + Clock>(
     rt: &R,
@@ -54,16 +74,8 @@ pub fn ran_in<R: Threads + Wait + Sync + Clock>(
     line: &str,
     held: Held<'_>,
 ) -> Result<Ran, Fail> {
-    let mut words = Vec::new(alloc);
-    for word in line.split("|") {
-        words.push(word.to_string(alloc)?)?;
-    }
-    let mut world = MemoryWorld::new(alloc, 1_000_000, [held.world].to_vec(alloc)?);
-    for file in held.files {
-        let (name, text) = *file;
-        world.hold(name.to_string(alloc)?, text.as_bytes().to_vec(alloc)?)?;
-    }
-    world.fail(held.name.to_string(alloc)?, [held.call].to_vec(alloc)?)?;
+    let words = words_in(alloc, line)?;
+    let mut world = world_of(alloc, held)?;
     let mut out = MemorySink::new(alloc, 1_000_000, [held.output].to_vec(alloc)?)?;
     let status = command(rt, alloc, &words, &mut world, &mut out);
     Ok(Ran {
@@ -71,5 +83,24 @@ pub fn ran_in<R: Threads + Wait + Sync + Clock>(
         note: status.note.as_str().to_string(alloc)?,
         printed: out.written().to_vec(alloc)?,
         log: world.held("log").unwrap_or(b"").to_vec(alloc)?,
+    })
+}
+
+/// Runs `bpx` with the words that stand between the `|` of the line.
+pub fn answered_in<R: Threads + Sync>(
+    rt: &R,
+    alloc: Global,
+    line: &str,
+    held: Held<'_>,
+) -> Result<Ran, Fail> {
+    let words = words_in(alloc, line)?;
+    let mut world = world_of(alloc, held)?;
+    let mut out = MemorySink::new(alloc, 1_000_000, [held.output].to_vec(alloc)?)?;
+    let end = answer(rt, alloc, &words, &mut world, &mut out);
+    Ok(Ran {
+        status: end.status(),
+        note: end.note(alloc)?.into_string(),
+        printed: out.written().to_vec(alloc)?,
+        log: Vec::new(alloc),
     })
 }
