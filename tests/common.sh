@@ -14,12 +14,6 @@ program() {
     timeout "$most" "$BP" "$@"
 }
 
-# mistakes_table: the rows of the table of mistakes, each on one line
-mistakes_table() {
-    sed -n '/^pub const MISTAKES/,/^"#;$/p' "$top/crates/test_bpx/src/mistakes.rt" | sed '1d;$d' |
-        sed -e ':row' -e '$!N' -e 's/\n    / /' -e 't row' -e 'P;D'
-}
-
 # differs TEXT: says what came in the place of what was wanted
 differs() {
     echo "$1"

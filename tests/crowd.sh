@@ -4,11 +4,11 @@
 #     sh tests/crowd.sh              500 b-threads beside each script, which takes some minutes
 #     sh tests/crowd.sh 100          this many
 #
-# The scripts are those of the examples, of what runs print (crates/test_command/src/runs.rt and verdicts.rt), and of mistakes
-# (crates/test_bpx/src/mistakes.rt). Each is run under every strategy and two seeds, alone and with a crowd that is registered before
-# its own b-threads or after them: b-threads that wait for events which never come, that block such events, or that request events
-# which are blocked. The text and the status must be those of the script alone: no set of these scripts is at fault about an event of
-# the crowd. A script that is refused counts for nothing. Ends with a line `N passed, M failed`.
+# The scripts are those of the examples, and of the rows of runs, verdicts and mistakes (tests/rows). Each is run under every strategy
+# and two seeds, alone and with a crowd that is registered before its own b-threads or after them: b-threads that wait for events
+# which never come, that block such events, or that request events which are blocked. The text and the status must be those of the
+# script alone: no set of these scripts is at fault about an event of the crowd. A script that is refused counts for nothing. Ends
+# with a line `N passed, M failed`.
 top=$(cd "$(dirname "$0")/.." && pwd) || exit 1
 . "$top/tests/common.sh"
 size=${1:-500}
@@ -25,26 +25,13 @@ examples() {
     done
 }
 
-# rows FILE: the scripts of a table in which each begins with a line of a # and ends before the words of its command
+# rows FOLDER: the files script.js of these rows
 rows() {
-    awk -v to="$got/scripts/$(basename "$1" .rt)" '
-        /^# / { number++; file = to "_" number ".js"; printf "" > file; next }
-        /^run\|/ || /^"#;/ { if (file) close(file); file = ""; next }
-        file { print > file }
-    ' "$1"
-}
-
-# mistakes: the scripts of the table of mistakes
-mistakes() {
-    mistakes_table | awk -v to="$got/scripts/mistakes" '
-        {
-            sub(/ ==> .*/, "")
-            gsub(/\\n/, "\n")
-            number++
-            file = to "_" number ".js"
-            print > file
-            close(file)
-        }
+    cat "$top/tests/rows/$1"/*.rows | awk -v to="$got/scripts/$1" '
+        /^file script\.js$/ { number++; file = to "_" number ".js"; printf "" > file; blank = 0; next }
+        file && /^$/ { blank++; next }
+        file && /^  / { for (; blank > 0; blank--) print "" > file; print substr($0, 3) > file; next }
+        file { close(file); file = "" }
     '
 }
 
@@ -104,9 +91,7 @@ unchanged() {
 }
 
 examples
-rows "$top/crates/test_command/src/runs.rt"
-rows "$top/crates/test_command/src/verdicts.rt"
-mistakes
+for subject in runs verdicts mistakes; do rows "$subject"; done
 passed=0
 failed=0
 for script in "$got"/scripts/*.js; do

@@ -1,7 +1,6 @@
 //! Reads and writes that fail.
 
-use crate::options::{TAKING_TURNS, TAPS};
-use crate::world::{Fails, NONE, run_with};
+use crate::world::{Held, holding, ran_in};
 use std::alloc::Global;
 use std::process::Abort;
 use std::sync::Wait;
@@ -9,17 +8,45 @@ use std::test::Fail;
 use std::thread::Threads;
 use std::time::Clock;
 
+/// Two taps that a third b-thread makes take turns.
+const TAPS: &str = r#"bp.registerBThread("Add hot", function() {
+  for (let i = 0; i < 3; i++) bp.sync({request: bp.Event("hot")});
+});
+bp.registerBThread("Add cold", function() {
+  for (let i = 0; i < 3; i++) bp.sync({request: bp.Event("cold")});
+});
+bp.registerBThread("Interleave", function() {
+  while (true) {
+    bp.sync({waitFor: bp.Event("hot"), block: bp.Event("cold")});
+    bp.sync({waitFor: bp.Event("cold"), block: bp.Event("hot")});
+  }
+});
+"#;
+
+const FILES: [(&str, &str); 1] = [("p", TAPS)];
+
+/// What is printed for them.
+const TAKING_TURNS: &str = r#"event ["hot"]
+event ["cold"]
+event ["hot"]
+event ["cold"]
+event ["hot"]
+done "Add hot"
+event ["cold"]
+done "Add cold"
+verdict quiet 6
+"#;
+
 /// What was printed before a write that fails is a prefix of the trace. How many writes there are is not said: a number
 /// past them fails none.
 #[test]
 fn a_write_that_fails_leaves_a_prefix(rt: HostRuntime) -> Result<(), Fail> {
     for number in 1..=10u64 {
-        let output = [number];
-        let fails = Fails {
-            output: &output,
-            ..NONE
+        let held = Held {
+            output: number,
+            ..holding(&FILES)
         };
-        let ran = run_with(&rt, rt.alloc(), "run|script.js", TAPS.as_bytes(), fails)?;
+        let ran = ran_in(&rt, rt.alloc(), "run|p", held)?;
         let printed = ran.printed.as_slice();
         assert!(rt;
             TAKING_TURNS.as_bytes().starts_with(printed),
@@ -40,9 +67,9 @@ fn meets_read_fault<R: Threads + Wait + Sync + Clock + Abort>(
     rt: &R,
     alloc: Global,
     words: &str,
-    fails: Fails<'_>,
+    held: Held<'_>,
 ) -> Result<(), Fail> {
-    let ran = run_with(rt, alloc, words, TAPS.as_bytes(), fails)?;
+    let ran = ran_in(rt, alloc, words, held)?;
     assert!(rt; ran.came_to(8, "read fault", b""), "{words}");
     Ok(())
 }
@@ -51,33 +78,31 @@ fn meets_read_fault<R: Threads + Wait + Sync + Clock + Abort>(
 #[test]
 fn a_read_that_fails_prints_nothing(rt: HostRuntime) -> Result<(), Fail> {
     let alloc = rt.alloc();
-    let opening = Fails {
-        world: &[1],
-        ..NONE
+    let opening = Held {
+        world: 1,
+        ..holding(&FILES)
     };
-    let first = Fails {
-        input: &[1],
-        ..NONE
-    };
-    let second = Fails {
-        input: &[2],
-        ..NONE
-    };
-    for words in ["run|script.js", "accept|script.js"] {
+    for words in ["run|p", "accept|p"] {
         meets_read_fault(&rt, alloc, words, opening)?;
-        meets_read_fault(&rt, alloc, words, first)?;
-        meets_read_fault(&rt, alloc, words, second)?;
+        for call in 1..=2u64 {
+            let read = Held {
+                name: "p",
+                call,
+                ..holding(&FILES)
+            };
+            meets_read_fault(&rt, alloc, words, read)?;
+        }
     }
     Ok(())
 }
 
 #[test]
 fn what_can_not_be_printed_is_not_accepted(rt: HostRuntime) -> Result<(), Fail> {
-    let fails = Fails {
-        output: &[1],
-        ..NONE
+    let held = Held {
+        output: 1,
+        ..holding(&FILES)
     };
-    let ran = run_with(&rt, rt.alloc(), "accept|script.js", TAPS.as_bytes(), fails)?;
+    let ran = ran_in(&rt, rt.alloc(), "accept|p", held)?;
     assert!(rt; ran.came_to(9, "write fault", b""));
     Ok(())
 }

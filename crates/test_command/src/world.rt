@@ -1,10 +1,9 @@
-//! Commands over a world in memory.
+//! Commands over a world in memory, of which some calls fail.
 
 use bp_base::{MemorySink, MemoryWorld};
 use bp_cli::command;
-use percent_encoding::percent_decode;
+use bpx_cli::answer;
 use std::alloc::Global;
-use std::process::Abort;
 use std::sync::Wait;
 use std::test::Fail;
 use std::thread::Threads;
@@ -27,37 +26,58 @@ impl Ran {
     }
 }
 
-/// The calls that are to fail: of the world, of the script's input, of the output, and of the log.
+/// A world that holds some files, and the calls that are to fail: of the world, of one name, and of the
+/// output; of each the one with this number, and none where it is 0.
 #[derive(Clone, Copy)]
-pub struct Fails<'a> {
-    pub world: &'a [u64],
-    pub input: &'a [u64],
-    pub output: &'a [u64],
-    pub log: &'a [u64],
+pub struct Held<'a> {
+    pub files: &'a [(&'a str, &'a str)],
+    pub world: u64,
+    pub name: &'a str,
+    pub call: u64,
+    pub output: u64,
 }
 
-/// No call fails.
-pub const NONE: Fails<'static> = Fails {
-    world: &[],
-    input: &[],
-    output: &[],
-    log: &[],
-};
+/// A world that holds these files, and in which no call fails.
+pub fn holding<'a>(files: &'a [(&'a str, &'a str)]) -> Held<'a> {
+    Held {
+        files,
+        world: 0,
+        name: "",
+        call: 0,
+        output: 0,
+    }
+}
 
-/// Runs `bp` with these words in a world that holds the script as `script.js`.
-pub fn run_words<R: Threads + Wait + Sync + Clock>(
+/// The words that stand between the `|` of the line.
+fn words_in(alloc: Global, line: &str) -> Result<Vec<String>, Fail> {
+    let mut words = Vec::new(alloc);
+    for word in line.split("|") {
+        words.push(word.to_string(alloc)?)?;
+    }
+    Ok(words)
+}
+
+fn world_of(alloc: Global, held: Held<'_>) -> Result<MemoryWorld, Fail> {
+    let mut world = MemoryWorld::new(alloc, 1_000_000, [held.world].to_vec(alloc)?);
+    for file in held.files {
+        let (name, text) = *file;
+        world.hold(name.to_string(alloc)?, text.as_bytes().to_vec(alloc)?)?;
+    }
+    world.fail(held.name.to_string(alloc)?, [held.call].to_vec(alloc)?)?;
+    Ok(world)
+}
+
+/// Runs `bp` with the words that stand between the `|` of the line.
+pub fn ran_in<R: Threads + Wait + Sync + Clock>(
     rt: &R,
     alloc: Global,
-    words: &[String],
-    script: &[u8],
-    fails: Fails<'_>,
+    line: &str,
+    held: Held<'_>,
 ) -> Result<Ran, Fail> {
-    let mut world = MemoryWorld::new(alloc, 1_000_000, fails.world.to_vec(alloc)?);
-    world.hold("script.js".to_string(alloc)?, script.to_vec(alloc)?)?;
-    world.fail("script.js".to_string(alloc)?, fails.input.to_vec(alloc)?)?;
-    world.fail("log".to_string(alloc)?, fails.log.to_vec(alloc)?)?;
-    let mut out = MemorySink::new(alloc, 4_000_000, fails.output.to_vec(alloc)?)?;
-    let status = command(rt, alloc, words, &mut world, &mut out);
+    let words = words_in(alloc, line)?;
+    let mut world = world_of(alloc, held)?;
+    let mut out = MemorySink::new(alloc, 1_000_000, [held.output].to_vec(alloc)?)?;
+    let status = command(rt, alloc, &words, &mut world, &mut out);
     Ok(Ran {
         status: status.code,
         note: status.note.as_str().to_string(alloc)?,
@@ -66,67 +86,21 @@ pub fn run_words<R: Threads + Wait + Sync + Clock>(
     })
 }
 
-/// The words that stand between the `|` of the line.
-pub fn words_in(alloc: Global, line: &str) -> Result<Vec<String>, Fail> {
-    let mut words = Vec::new(alloc);
-    for word in line.split("|") {
-        words.push(word.to_string(alloc)?)?;
-    }
-    Ok(words)
-}
-
-/// Runs `bp` with the words that stand between the `|` of the line.
-pub fn run_with<R: Threads + Wait + Sync + Clock>(
+/// Runs `bpx` with the words that stand between the `|` of the line.
+pub fn answered_in<R: Threads + Sync>(
     rt: &R,
     alloc: Global,
     line: &str,
-    script: &[u8],
-    fails: Fails<'_>,
+    held: Held<'_>,
 ) -> Result<Ran, Fail> {
     let words = words_in(alloc, line)?;
-    run_words(rt, alloc, &words, script, fails)
-}
-
-/// The words have this status and this note, and print this.
-pub fn tells<R: Threads + Wait + Sync + Clock + Abort>(
-    rt: &R,
-    alloc: Global,
-    words: &str,
-    script: &[u8],
-    want: (u8, &str, &str),
-) -> Result<(), Fail> {
-    let (status, note, printed) = want;
-    let ran = run_with(rt, alloc, words, script, NONE)?;
-    assert!(rt; ran.came_to(status, note, printed.as_bytes()), "{words}");
-    Ok(())
-}
-
-/// The words fail with this status and this note, and print nothing.
-pub fn fails_with<R: Threads + Wait + Sync + Clock + Abort>(
-    rt: &R,
-    alloc: Global,
-    words: &str,
-    script: &[u8],
-    status: u8,
-    note: &str,
-) -> Result<(), Fail> {
-    tells(rt, alloc, words, script, (status, note, ""))
-}
-
-/// The bytes of a cell, in which `\n` stands for a line end, `%` and two digits for a byte, and `«N TEXT»` for so many
-/// texts.
-pub fn bytes_of(alloc: Global, cell: &str) -> Result<Vec<u8>, Fail> {
-    let text = cell.replace(alloc, "\\n", "\n")?;
-    let mut bytes = Vec::new(alloc);
-    for piece in text.split("«") {
-        let mut rest = piece;
-        if let Some((repeated, behind)) = piece.split_once("»") {
-            let (count, text) = repeated.split_once(" ").ok_or("no number")?;
-            let texts = text.repeat(alloc, count.parse::<usize>()?)?;
-            bytes.extend_from_slice(texts.as_bytes())?;
-            rest = behind;
-        }
-        percent_decode(rest.as_bytes()).append_to(&mut bytes)?;
-    }
-    Ok(bytes)
+    let mut world = world_of(alloc, held)?;
+    let mut out = MemorySink::new(alloc, 1_000_000, [held.output].to_vec(alloc)?)?;
+    let end = answer(rt, alloc, &words, &mut world, &mut out);
+    Ok(Ran {
+        status: end.status(),
+        note: end.note(alloc)?.into_string(),
+        printed: out.written().to_vec(alloc)?,
+        log: Vec::new(alloc),
+    })
 }

@@ -1,17 +1,17 @@
 //! Sources and sinks that fail.
-use crate::lines::log_of;
 use bp_base::{MemorySink, MemorySource};
 use bp_log::{PrintError, Record, Verdict, write_record};
 use bp_reader::{LogFault, Reader};
 use std::test::Fail;
 
-const LOG: &str = "@;strategy simple;seed 0;budget 1;steps 1;injectors 0;program 0;;end quiet 0;";
+const LOG: &[u8] =
+    b"bp-log 1\nstrategy simple\nseed 0\nbudget 1\nsteps 1\ninjectors 0\nprogram 0\n\nend quiet 0\n";
 
 /// The first read would give the whole log.
 #[test]
 fn a_failed_read_is_told(rt: HostRuntime) -> Result<(), Fail> {
     let alloc = rt.alloc();
-    let source = MemorySource::new(log_of(alloc, b"", LOG)?, [1].to_vec(alloc)?);
+    let source = MemorySource::new(LOG.to_vec(alloc)?, [1].to_vec(alloc)?);
     let Err(refused) = Reader::open(alloc, source) else {
         return Err(Fail::from("opened"));
     };
@@ -25,7 +25,7 @@ fn a_failed_read_is_told(rt: HostRuntime) -> Result<(), Fail> {
 #[test]
 fn a_refusal_stays(rt: HostRuntime) -> Result<(), Fail> {
     let alloc = rt.alloc();
-    let source = MemorySource::new(log_of(alloc, b"", LOG)?, [2].to_vec(alloc)?);
+    let source = MemorySource::new(LOG.to_vec(alloc)?, [2].to_vec(alloc)?);
     let Ok((mut reader, _header)) = Reader::open(alloc, source) else {
         return Err(Fail::from("refused"));
     };
