@@ -31,13 +31,7 @@ fn each_write_of_a_replay_fails(rt: HostRuntime) -> Result<(), Fail> {
     let (log, text) = long_log(alloc)?;
     let mut longest: usize = 0;
     for write in 1..=40u64 {
-        let came = run_over(
-            &rt,
-            alloc,
-            "replay|p",
-            (log.as_str().as_bytes(), b""),
-            write,
-        )?;
+        let came = run_over(&rt, alloc, "replay|p", log.as_str().as_bytes(), write)?;
         let printed = came.printed.as_slice();
         if printed.len() == text.len() {
             assert!(rt; came.came_to(0, "", text.as_str().as_bytes()), "{write}");
