@@ -10,10 +10,8 @@ ghost use Rattle.js_meaning.specs.State.{Ground as Base};
 ghost use Rattle.bp_select.specs.Benches.{Fits};
 
 use crate::lines::event;
-use bp_draw::Draw;
-use bp_log::Strategy;
 use bp_script::accept;
-use bp_select::{Bench, Choice, Enabled, Reach, SelectFault};
+use bp_select::{Bench, Enabled, SelectFault};
 use bp_sets::SetFault;
 use bp_thread::{Events, Requests, Statement};
 use js_data::{Event, Text, Whole};
@@ -109,25 +107,6 @@ fn told(alloc: Global, fault: &SelectFault) -> Result<String, Fail> {
     }
 }
 
-fn choice_text(alloc: Global, choice: &Result<Choice, SelectFault>) -> Result<String, Fail> {
-    match choice {
-        Ok(Choice::Internal(event)) => Ok(String::from_str(alloc, event.name().as_str())?),
-        Ok(Choice::External(place)) => Ok(format!(in alloc; "external {place}")?),
-        Ok(Choice::Nothing) => Ok(String::from_str(alloc, "nothing")?),
-        Err(fault) => told(alloc, fault),
-    }
-}
-
-fn reach_text(alloc: Global, reach: &Result<Reach, SelectFault>) -> Result<String, Fail> {
-    match reach {
-        Ok(reach) => {
-            let (moved, interrupted) = (&reach.moved, &reach.interrupted);
-            Ok(format!(in alloc; "moved {moved:?} interrupted {interrupted:?}")?)
-        }
-        Err(fault) => told(alloc, fault),
-    }
-}
-
 fn blocker_text(alloc: Global, blocker: &Result<Option<u32>, SelectFault>) -> Result<String, Fail> {
     match blocker {
         Ok(Some(number)) => Ok(number.to_string(alloc)?),
@@ -150,25 +129,6 @@ fn enabled_text(alloc: Global, enabled: &Result<Enabled, SelectFault>) -> Result
     }
 }
 
-/// The choice, and how many words were drawn of those of the seed.
-fn choose(
-    alloc: Global,
-    strategy: Strategy,
-    seed: &str,
-    made: &mut Bench,
-    events: &[Event],
-) -> Result<String, Fail>
-    requires fits { (base : Base) (budget : ℕ) → Fits made.old base budget }
-    requires few { length events.now ≤ MOST_EVENTS }
-{
-    let ground = Ground::bare(alloc, accept(alloc, PROGRAM)?);
-    let mut draw = Draw::new(seed.parse::<u64>()?);
-    let choice = made.choose(alloc, &ground, events, strategy, BUDGET, &mut draw);
-    let text = choice_text(alloc, &choice)?;
-    let drawn = draw.drawn();
-    Ok(format!(in alloc; "{text} {drawn}")?)
-}
-
 /// What the bench answers of the first of the events.
 fn ask(alloc: Global, question: &str, made: &mut Bench, events: &[Event]) -> Result<String, Fail>
     requires { (base : Base) (budget : ℕ) → Fits made.old base budget }
@@ -176,7 +136,6 @@ fn ask(alloc: Global, question: &str, made: &mut Bench, events: &[Event]) -> Res
     let ground = Ground::bare(alloc, accept(alloc, PROGRAM)?);
     let event = events.first().ok_or("no event")?;
     match question {
-        "reach" => reach_text(alloc, &made.reach(alloc, &ground, event, BUDGET)),
         "blocker" => blocker_text(alloc, &made.blocker(alloc, &ground, event, BUDGET)),
         "requested" => Ok(made.requested(event).to_string(alloc)?),
         _ => Err(Fail::new("no question")),
@@ -198,12 +157,9 @@ fn answer(alloc: Global, question: &str, made: &mut Bench, events: &[Event]) -> 
     if events.len() > MOST_EVENTS {
         return Err(Fail::new("too many events"));
     }
-    match question.split_once(" ") {
-        Some(("simple", seed)) => choose(alloc, Strategy::Simple, seed, made, events),
-        Some(("ordered", seed)) => choose(alloc, Strategy::Ordered, seed, made, events),
-        Some((_, seed)) => choose(alloc, Strategy::Priority, seed, made, events),
-        None if question == "enabled" => enabled(alloc, made, events),
-        None => ask(alloc, question, made, events),
+    match question {
+        "enabled" => enabled(alloc, made, events),
+        question => ask(alloc, question, made, events),
     }
 }
 

@@ -3,7 +3,7 @@ ghost use Rattle.std.specs.Prelude.{◌≡◌, OnOk};
 ghost use Rattle.bp_floor.specs.declared.phase.Phase.TheVariants as phase;
 ghost use Rattle.test_arbiter.specs.Floors.{Goes};
 
-use crate::lines::{Rows, agree, event};
+use crate::lines::{event, floors_agree};
 use bp_floor::{Floor, Phase};
 use bp_log::{Line, Options, Strategy, Verdict, line_of};
 use bp_script::accept;
@@ -11,6 +11,8 @@ use bp_turns::carry_all;
 use std::alloc::Global;
 use std::test::Fail;
 
+/// A program, and then the first requested event that can be selected, the number of the first b-thread that blocks `x`, and the
+/// verdict with which that event would stop the run; `-` where there is none.
 const ANSWERS: &str = r#"
 bp.registerBThread("A", () => { bp.sync({request: bp.Event("x")}) })
 bp.registerBThread("B", () => { bp.sync({block: bp.Event("x")}) })
@@ -100,5 +102,5 @@ pub fn floor_holds(alloc: Global, script: &str, want: &str) -> Result<bool, Fail
 
 #[test]
 fn answers(rt: HostRuntime) -> Result<(), Fail> {
-    agree(&rt, rt.alloc(), Rows::Floors, ANSWERS)
+    floors_agree(&rt, rt.alloc(), ANSWERS)
 }

@@ -89,7 +89,7 @@ fn an_event_is_printed_before_the_next_is_waited_for(rt: HostRuntime) -> Result<
     let text = b"external [\"a\"]\nexternal [\"b\"]\nverdict quiet 2\n";
     let came = looked(&rt, alloc, WATCHES, injector)?;
     assert!(rt; came.came_to(0, "", text));
-    let again = run_over(&rt, alloc, "replay|p", (&came.log, b""), 0)?;
+    let again = run_over(&rt, alloc, "replay|p", &came.log, 0)?;
     assert!(rt; again.came_to(0, "", text));
     Ok(())
 }
@@ -110,7 +110,7 @@ fn a_read_that_fails_behind_the_verdict(rt: HostRuntime) -> Result<(), Fail> {
     let text = b"external [\"x\"]\nverdict violated \"A\" \"end\"\n";
     let came = looked(&rt, alloc, script, injector)?;
     assert!(rt; came.came_to(3, "", text));
-    let again = run_over(&rt, alloc, "replay|p", (&came.log, b""), 0)?;
+    let again = run_over(&rt, alloc, "replay|p", &came.log, 0)?;
     assert!(rt; again.came_to(3, "", text));
     Ok(())
 }
@@ -144,9 +144,9 @@ fn an_injector_that_sleeps_is_not_waited_for(rt: HostRuntime) -> Result<(), Fail
     let log = str::from_utf8(&came.log).ok().ok_or("no text")?;
     assert!(rt; log.contains("\ninjectors 1\nwait no\nprogram "));
     assert!(rt; log.ends_with("\nend quiet 0\n"));
-    let again = run_over(&rt, alloc, "replay|p", (&came.log, b""), 0)?;
+    let again = run_over(&rt, alloc, "replay|p", &came.log, 0)?;
     assert!(rt; again.came_to(0, "", text));
-    let migrated = run_over(&rt, alloc, "migrate|p", (&came.log, b""), 0)?;
+    let migrated = run_over(&rt, alloc, "migrate|p", &came.log, 0)?;
     assert!(rt; migrated.came_to(0, "", &came.log));
     Ok(())
 }

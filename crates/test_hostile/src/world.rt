@@ -37,19 +37,17 @@ pub fn words_in(alloc: Global, line: &str) -> Result<Vec<String>, Fail> {
     Ok(words)
 }
 
-/// Runs `bp` with these words in a world that holds these bytes as `p` and as `i`, over an output whose write of
-/// this number fails.
+/// Runs `bp` with these words in a world that holds these bytes as `p`, over an output whose write of this number fails.
 pub fn run_over<R: Threads + Wait + Sync + Clock>(
     rt: &R,
     alloc: Global,
     line: &str,
-    files: (&[u8], &[u8]),
+    file: &[u8],
     write: u64,
 ) -> Result<Ran, Fail> {
     let words = words_in(alloc, line)?;
     let mut world = MemoryWorld::new(alloc, ROOM, Vec::new(alloc));
-    world.hold("p".to_string(alloc)?, files.0.to_vec(alloc)?)?;
-    world.hold("i".to_string(alloc)?, files.1.to_vec(alloc)?)?;
+    world.hold("p".to_string(alloc)?, file.to_vec(alloc)?)?;
     let mut out = MemorySink::new(alloc, ROOM, [write].to_vec(alloc)?)?;
     let status = command(rt, alloc, &words, &mut world, &mut out);
     Ok(Ran {

@@ -1,15 +1,10 @@
-//! Tests of the machine, of sets, statements and jobs, and of super-steps, as tables in which a line is a program or a
-//! part of one, and what is told of it.
+//! Tests of jobs that threads carry: gates, jobs that wait for one another or move, and super-steps by any number of workers.
 #![tactic(auto)]
 
 #[cfg(test)]
-mod bodies;
-#[cfg(test)]
 mod gates;
 #[cfg(test)]
-mod jobs;
-#[cfg(test)]
-mod lines;
+mod given;
 #[cfg(test)]
 mod many;
 #[cfg(test)]
@@ -17,16 +12,8 @@ mod moving;
 #[cfg(test)]
 mod programs;
 #[cfg(test)]
-mod runs;
-#[cfg(test)]
-mod sets;
-#[cfg(test)]
 mod several;
 #[cfg(test)]
-mod statements;
-#[cfg(test)]
 mod supersteps;
-#[cfg(test)]
-mod telling;
 #[cfg(test)]
 mod waiting;

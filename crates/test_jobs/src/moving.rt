@@ -3,9 +3,8 @@ ghost use Rattle.std.specs.Prelude.{◌≡◌, IfOk, None, false};
 ghost use Rattle.js_frames.specs.Places.{plain_ground};
 ghost use Rattle.bp_thread.specs.Jobs.{plain_job, IsOf};
 
-use crate::lines::Lines;
 use crate::programs::{BUDGET, call, first_started};
-use crate::telling::push_done;
+use crate::several::push_job;
 use bp_thread::Job;
 use js_data::Memory;
 use js_frames::Ground;
@@ -57,12 +56,11 @@ fn carried_beside<R: Threads + Sync>(rt: &R, ground: &Ground, job: Job) -> Resul
 #[test]
 fn jobs_move_between_threads(rt: HostRuntime) -> Result<(), Fail> {
     let script = "bp.registerBThread('t', () => { bp.log.info(1 + 2); bp.log.info('b') })";
-    let lines = Lines::Threads(BUDGET);
     let (ground, function) = first_started(rt.alloc(), script)?;
-    let job = call(rt.alloc(), &ground, function, lines)?;
-    let mut moved = carried_beside(&rt, &ground, job)?;
+    let job = call(rt.alloc(), &ground, function)?;
+    let moved = carried_beside(&rt, &ground, job)?;
     let mut out = String::new(rt.alloc());
-    push_done(&mut out, rt.alloc(), &ground, lines, &mut moved)?;
-    assert!(&rt; out.as_str() == "3; b; ended");
+    push_job(&mut out, moved)?;
+    assert!(&rt; out.as_str() == "0: 3 b ended; ");
     Ok(())
 }

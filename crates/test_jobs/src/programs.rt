@@ -3,50 +3,24 @@ ghost use Rattle.std.specs.Prelude.{◌≡◌, IfOk, OnOk, None, true};
 ghost use Rattle.js_frames.specs.Places.{plain_ground};
 ghost use Rattle.bp_thread.specs.Jobs.{plain_job, IsOf, is_stopped as stops, is_ended as ends};
 
-use crate::lines::Lines;
 use bp_script::accept;
 use bp_thread::{Job, Outcome};
-use js_data::{Event, Text};
+use js_data::Text;
 use js_frames::{Effect, Effects, Ground};
 use js_program::{Mode, Program};
-use js_value::{Value, event_value};
-use std::alloc::{AllocError, Global};
+use js_value::Value;
+use std::alloc::Global;
 use std::test::Fail;
 
-/// The budget of every body and predicate of which nothing else is said.
+/// The budget of a job of which nothing else is said.
 pub const BUDGET: u64 = 100;
 
 /// The budget of every top level.
 const TOP_BUDGET: u64 = 1_000_000;
 
-/// The script of a line: its program, or a program that registers one b-thread, in which the part of a line stands. `\n`
-/// there is the end of a line.
-pub fn script_of(alloc: Global, lines: Lines, cell: &str) -> Result<String, AllocError> {
-    let (head, tail) = match lines {
-        Lines::Top => ("", ""),
-        Lines::Sets => (
-            "bp.registerBThread('t', (e) => { bp.sync({waitFor: ",
-            "})})",
-        ),
-        Lines::Statements => ("bp.registerBThread('t', (e) => { bp.sync(", ")})"),
-        _ => ("bp.registerBThread('t', (e) => { ", "})"),
-    };
-    let mut script = String::from_str(alloc, head)?;
-    script.push_str(cell.replace(alloc, "\\n", "\n")?.as_str())?;
-    script.push_str("\n")?;
-    script.push_str(tail)?;
-    Ok(script)
-}
-
 /// The program of a script.
 pub fn program_of(alloc: Global, script: &str) -> Result<Program, Fail> {
     Ok(accept(alloc, script.as_bytes())?)
-}
-
-/// The event of this name.
-pub fn event(alloc: Global, name: &str) -> Result<Event, Fail> {
-    let name = Text::new(String::from_str(alloc, name)?);
-    Ok(Event::new(name, None)?)
 }
 
 /// Whether the job stopped.
@@ -131,18 +105,12 @@ pub fn first_started(alloc: Global, script: &str) -> Result<(Ground, Value), Fai
     Ok((ground, function))
 }
 
-/// A job of this function, which gets the event `e` as its argument.
-pub fn call(alloc: Global, ground: &Ground, function: Value, lines: Lines) -> Result<Job, Fail>
+/// A job of this function.
+pub fn call(alloc: Global, ground: &Ground, function: Value) -> Result<Job, Fail>
     ensures program { IfOk result (λ j. IsOf (plain_ground ground.now).program j) }
     ensures open { IfOk result (λ j. (plain_job j).outcome ≡ None) }
 {
-    let (mode, budget) = match lines {
-        Lines::Threads(budget) => (Mode::Thread, budget),
-        Lines::Handlers => (Mode::Handler, BUDGET),
-        _ => (Mode::Thread, BUDGET),
-    };
     let name = Text::new(String::from_str(alloc, "t")?);
-    let mut args = Vec::new(alloc);
-    args.push(event_value(alloc, event(alloc, "e")?)?)?;
-    Ok(Job::start(alloc, ground, 0, name, mode, function, args, budget)?)
+    let args = Vec::new(alloc);
+    Ok(Job::start(alloc, ground, 0, name, Mode::Thread, function, args, BUDGET)?)
 }

@@ -72,15 +72,20 @@ fn push_outcome(out: &mut String, job: &Job) -> Result<(), AllocError> {
     }
 }
 
-/// Of each job in order its number, what it did, and where it stands.
+/// The job's number, what it did, and where it stands.
+pub fn push_job(out: &mut String, job: Job) -> Result<(), AllocError> {
+    let mut job = job;
+    write!(out, "{}: ", job.number())?;
+    let effects = job.take_effects();
+    push_lines(out, &effects)?;
+    push_outcome(out, &job)?;
+    out.push_str("; ")
+}
+
+/// The same of each job in order.
 fn push_told(out: &mut String, jobs: Vec<Job>) -> Result<(), AllocError> {
     for job in jobs {
-        let mut job = job;
-        write!(out, "{}: ", job.number())?;
-        let effects = job.take_effects();
-        push_lines(out, &effects)?;
-        push_outcome(out, &job)?;
-        out.push_str("; ")?;
+        push_job(out, job)?;
     }
     Ok(())
 }

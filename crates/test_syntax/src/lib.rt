@@ -4,15 +4,9 @@
 #[cfg(test)]
 mod lines;
 #[cfg(test)]
-mod names;
-#[cfg(test)]
 mod nestings;
 #[cfg(test)]
 mod numbered;
-#[cfg(test)]
-mod rules;
-#[cfg(test)]
-mod slots;
 #[cfg(test)]
 mod tables;
 #[cfg(test)]

@@ -1,5 +1,5 @@
 //! Tables, as texts of lines with `-->` between a text and what is wanted of it.
-use crate::{names, nestings, slots, tokens, trees};
+use crate::{nestings, tokens, trees};
 use std::alloc::Global;
 use std::process::Abort;
 use std::test::Fail;
@@ -7,16 +7,12 @@ use std::test::Fail;
 /// What the lines of a table are of.
 #[derive(Clone, Copy)]
 pub enum Lines {
-    /// Bytes, some of them as `%` and two digits, and their tokens or refusal.
+    /// Bytes, some of them as `%` and two digits, and their tokens.
     Tokens,
-    /// A text, in which `\n` stands for a line end, and its tree or refusal.
+    /// A text, in which `\n` stands for a line end, and its tree.
     Trees,
     /// How many times, a shape and its tree.
     Nestings,
-    /// A program, in which `\n` stands for a line end, and its answer: `accepted`, or the words after `refused line`.
-    Names,
-    /// A number of names, the shape of a program, and its answer.
-    Slots,
 }
 
 fn holds(alloc: Global, lines: Lines, line: &str) -> Result<bool, Fail> {
@@ -26,8 +22,6 @@ fn holds(alloc: Global, lines: Lines, line: &str) -> Result<bool, Fail> {
         Lines::Tokens => tokens::agrees(alloc, cell, want),
         Lines::Trees => trees::agrees(alloc, cell, want),
         Lines::Nestings => nestings::agrees(alloc, cell, want),
-        Lines::Names => names::agrees(alloc, cell, want),
-        Lines::Slots => slots::agrees(alloc, cell, want),
     }
 }
 

@@ -59,7 +59,7 @@ const NESTINGS: &str = "
 196 «[|Math.floor(a/b)|]» --> «(list |(call (. Math floor) (/ a b))|)»
 ";
 
-/// Whether the shape with its nest this many times has this tree or refusal.
+/// Whether the shape with its nest this many times has this tree, or none.
 fn is_shown(alloc: Global, shape: &str, count: usize, want: &str) -> Result<bool, Fail> {
     let text = nested(alloc, shape, count)?;
     Ok(shown(alloc, text.as_bytes())?.as_str() == want)
@@ -72,7 +72,7 @@ pub fn agrees(alloc: Global, cell: &str, tree: &str) -> Result<bool, Fail> {
     let tree = nested(alloc, tree, count)?;
     Ok(
         is_shown(alloc, shape, count, tree.as_str())?
-            && is_shown(alloc, shape, count.saturating_add(1), "NoTree(1)")?,
+            && is_shown(alloc, shape, count.saturating_add(1), "no tree")?,
     )
 }
 
