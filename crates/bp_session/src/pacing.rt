@@ -1,4 +1,4 @@
-//! When what waits to be written is written.
+//! When what waits to be written is due by the clock.
 ghost use Rattle.std.specs.Prelude.{◌≡◌, true};
 
 use std::time::{Clock, Instant};
@@ -6,29 +6,31 @@ use std::time::{Clock, Instant};
 /// How many seconds what was told may wait at the end of a turn.
 const MOST_SECONDS: u64 = 1;
 
-/// When what waited was last due by the clock, or the run began.
+/// A clock, and when what waits was last due by it, or the run began.
 #[derive(Drop)]
-pub(crate) struct Pace {
+pub(crate) struct Pace<'a, C> {
+    clock: &'a C,
     since: Option<Instant>,
 }
 
-impl Pace {
+impl<'a, C: Clock> Pace<'a, C> {
     /// From now on.
-    pub(crate) fn new<R: Clock>(rt: &R) -> Pace {
+    pub(crate) fn new(clock: &'a C) -> Pace<'a, C> {
         Pace {
-            since: Instant::now(rt).ok(),
+            clock,
+            since: Instant::now(clock).ok(),
         }
     }
 
-    /// Whether what waits is to be written: something entered in the round before, or a second has passed
-    /// since it was due. A clock that can't be read lets it wait. No clause speaks of the clock.
-    pub(crate) fn is_due<R: Clock>(&mut self, rt: &R, heard: bool) -> bool
+    /// Whether what waits is due: something entered in the round before, or a second has passed since it was
+    /// due by the clock. A clock that can't be read lets it wait. No clause speaks of the clock.
+    pub(crate) fn is_due(&mut self, heard: bool) -> bool
         ensures { heard ≡ true → result ≡ true }
     {
         if heard {
             return true;
         }
-        let Ok(now) = Instant::now(rt) else {
+        let Ok(now) = Instant::now(self.clock) else {
             return false;
         };
         if let Some(since) = self.since

@@ -19,6 +19,7 @@ ghost use Rattle.bp_session.specs.inner.Outlets.{ended_fault, WritesOn};
 ghost use Rattle.bp_session.specs.inner.Serving.{IsReady, EndsServing, broke_at};
 
 use crate::lent::{Lent, Parts, serve_alone};
+use crate::pacing::Pace;
 use crate::report::{Ending, Report};
 use crate::showing::{Shows, Silent};
 use bp_base::{Memory, Sink, Source};
@@ -67,7 +68,7 @@ fn begin<S: Source + Drop, L: Sink>(
 }
 
 /// Serves what is lent, in a scope in which each input, if there are any, has an injector.
-fn served<S: Source + Send + Drop, R: Threads + Wait + Sync + Clock, K: Sink, L: Sink, V: Shows>(
+fn served<S: Source + Send + Drop, R: Threads + Wait + Sync, K: Sink, L: Sink, V: Shows>(
     rt: &R,
     alloc: Global,
     places: Places<S>,
@@ -171,7 +172,9 @@ impl Session {
             core,
             telling,
             parallelism,
-            shows: Silent,
+            shows: Silent {
+                pace: Pace::new(rt),
+            },
             back: Vec::new(alloc),
             end: Ending::Memory,
         };

@@ -21,7 +21,6 @@ ghost use Rattle.bp_turns.specs.Settled.{IsSomewhereHere, IsSettled};
 use crate::calling::Calls;
 use crate::hearing::hear_all;
 use crate::outlets::Outlets;
-use crate::pacing::Pace;
 use crate::showing::Shows;
 use crate::stop::Stop;
 use crate::telling::{tell, write};
@@ -36,7 +35,6 @@ use bp_turns::{Carrier, Workers, settle_core};
 use std::alloc::Global;
 use std::sync::Wait;
 use std::thread::Threads;
-use std::time::Clock;
 
 /// Writes what waits to be written, and then shows the run as it stands.
 fn write_and_show<R: Threads + Wait + Sync, K: Sink, L: Sink, V: Shows>(
@@ -322,7 +320,7 @@ fn settle_and_tell<C: Carrier, K: Sink, L: Sink>(
 /// source, after a round in which something entered, at the end of a turn where it waited for a second, and
 /// once the run is over. The run is shown before it waits so, and once it is over. Without injectors there is
 /// nobody to wait for.
-pub(crate) fn serve_on<S: Source, R: Threads + Wait + Sync + Clock, K: Sink, L: Sink, V: Shows>(
+pub(crate) fn serve_on<S: Source, R: Threads + Wait + Sync, K: Sink, L: Sink, V: Shows>(
     rt: &R,
     alloc: Global,
     core: &mut Core,
@@ -346,14 +344,13 @@ pub(crate) fn serve_on<S: Source, R: Threads + Wait + Sync + Clock, K: Sink, L: 
 {
     write(telling, outlets)?;
     let workers = Workers { rt, parallelism };
-    let mut pace = Pace::new(rt);
     let mut heard = false;
     for _ in rt.forever() {
         settle_and_tell(alloc, core, &workers, telling, outlets)?;
         if core.arbiter().phase() == Phase::Over {
             return verdict_shown(rt, alloc, core, telling, outlets, shows);
         }
-        write_where(pace.is_due(rt, heard), telling, outlets)?;
+        write_where(shows.is_due(heard), telling, outlets)?;
         heard = round(rt, alloc, core, telling, outlets, calls, readings, shows)?;
     }
     unreachable!()
