@@ -1,7 +1,7 @@
 -- Every run is the beginning of a complete story over the same inputs.
 use Rattle.std.proofs.Common.{◌≡◌, ℕ, Bool, true, false, List, [], ◌∷◌, ◌++◌, length, map, refl, sym, ap, subst, ◌∙◌, append_assoc, append-nil, Option, Some, None, if◌then◌else◌, option_map}
 use Rattle.std.specs.Prelude.{IsSome, IsSomeAnd, slice_get, slice_index_or, ◌+◌}
-use Rattle.std.specs.List.{All, AllZip}
+use Rattle.std.specs.List.{All}
 use Rattle.std.proofs.lemmas.List.{length-map}
 use Rattle.std.proofs.lemmas.List.Elements.{All-map, length_all_zip}
 use Rattle.std.proofs.lemmas.Option.{same_Some, slice_get-map}
@@ -22,7 +22,7 @@ use Rattle.bp_run.specs.Story.{story}
 use Rattle.bp_run.specs.Text.{text}
 use Rattle.bp_run.proofs.Stories.{text_prefix}
 use Rattle.bp_code.specs.Code.{code_of, text_of}
-use Rattle.bp_complete.specs.Completions.{AreBrought, MergesBrought, Completion}
+use Rattle.bp_complete.specs.Completions.{AreBrought, MergesBrought}
 use Rattle.bp_complete.proofs.Completing.{completes}
 use Rattle.bp_hear.specs.Merges.{Merge}
 use Rattle.bp_args.specs.declared.command.Run.{Run}

@@ -1,6 +1,6 @@
 -- How a command ends: from its parts, and with its note or without the memory for it.
 use Rattle.std.proofs.Common.{◌≡◌, ◌∙◌, ℕ, List, [], length, refl, sym, ap, subst, append-nil, inl, inr, Option, Some, None}
-use Rattle.std.specs.Prelude.{◌⊎◌, true, Result, Ok, Err, IsSome, IsSomeAnd, slice_index_or}
+use Rattle.std.specs.Prelude.{◌⊎◌, true, Result, Err, IsSome, IsSomeAnd, slice_index_or}
 use Rattle.std.proofs.lemmas.Bool.{false≢true}
 use Rattle.bp_base.specs.Counts.{Rose}
 use Rattle.bp_base.specs.Worlds.{Holdings, Asks}
