@@ -1,12 +1,10 @@
 -- A log and what a migration makes of it replay alike.
-use Rattle.std.proofs.Common.{◌≡◌, ◌⊎◌, inl, inr, ℕ, List, [], ◌∷◌, ◌++◌, length, refl, ap, sym, ◌∙◌, subst, append-nil, Option, Some, None, Ok, Err}
-use Rattle.std.specs.Prelude.{Result, flat_map}
+use Rattle.std.proofs.Common.{◌≡◌, ◌⊎◌, inl, inr, ℕ, List, [], ◌∷◌, ◌++◌, ap, sym, ◌∙◌, subst, append-nil, Option, Some, Ok, Err}
+use Rattle.std.specs.Prelude.{Result}
 use Rattle.std.proofs.lemmas.Grind.{flat_map-append}
 use Rattle.std.proofs.lemmas.Option.{same_Some}
-use Rattle.js_program.specs.PlainProgram.{PlainProgram}
-use Rattle.bp_base.specs.Pieces.{Appends}
 use Rattle.bp_log.specs.Header.{PlainHeader}
-use Rattle.bp_log.specs.Logs.{record_text, records_text, whole_record, log_text}
+use Rattle.bp_log.specs.Logs.{records_text, whole_record, log_text}
 use Rattle.bp_log.specs.declared.version.Version.{Version}
 use Rattle.bp_log.specs.declared.version.Version.TheVariants.{Second}
 use Rattle.bp_log.specs.declared.record.Record.{Record}
@@ -16,9 +14,6 @@ use Rattle.bp_reading.specs.Reading.{Stage, BeginsWith, found, finished, refused
 use Rattle.bp_reading.proofs.Fits.{header_fits}
 use Rattle.bp_reading.proofs.Law.{regrouped}
 use Rattle.bp_reading.proofs.OneWay.{found_unfinished, found_unrefused, finished_unrefused, one_refusal}
-use Rattle.bp_reader.specs.Gets.{MeansRead}
-use Rattle.bp_reader.specs.Reads.{MeansNext}
-use Rattle.bp_reader.specs.declared.fault.LogFault.{LogFault}
 use Rattle.bp_reader.specs.declared.fault.LogFault.TheVariants as log
 use Rattle.bp_script.specs.Programs.{IsProgram, IsRefused}
 use Rattle.bp_migrate.specs.declared.fault.MigrateFault.{MigrateFault}
@@ -31,7 +26,7 @@ use Rattle.bp_replay.specs.declared.fault.ReplayFault.{ReplayFault}
 use Rattle.bp_replay.specs.declared.fault.ReplayFault.TheVariants.{Log, Differs, Program, Write, Memory}
 use Rattle.bp_replay.specs.Courses.{Course, Follows}
 use Rattle.bp_replay.specs.Endings.{EndsAt, Parts}
-use Rattle.bp_replay.specs.Replays.{Heads, Replays, HasNoRun, HasRefusedProgram, IsReplay}
+use Rattle.bp_replay.specs.Replays.{Replays, HasNoRun, IsReplay}
 use Rattle.bp_replay.specs.Laws.{IsTrouble, ReplaysAlike}
 use Rattle.bp_replay.proofs.WholeLogs.{same_record, one_ok, read_ok}
 use Rattle.bp_replay.proofs.OneEnding.{Further, Together, compared, one_ending}

@@ -1,5 +1,5 @@
 -- The counts of ends add up to the number of seeds.
-use Rattle.std.proofs.Common.{◌≡◌, ◌∙◌, ℕ, zero, suc, ◌+◌, Bool, true, false, List, [], ◌∷◌, length, Option, Some, None, refl, sym, ap, arith}
+use Rattle.std.proofs.Common.{◌≡◌, ◌∙◌, ℕ, zero, suc, ◌+◌, true, List, [], ◌∷◌, length, Option, Some, refl, ap, arith}
 use Rattle.std.specs.Prelude.{codes, nat_lt, option_map, option_and_then, if◌then◌else◌}
 use Rattle.std.specs.List.{sum_by}
 use Rattle.std.proofs.lemmas.List.Sums.{sum_by-cons}
@@ -11,7 +11,7 @@ use Rattle.bp_log.specs.declared.record.Record.TheVariants.{In, Bad, Eof, Sel, E
 use Rattle.bp_log.specs.declared.verdict.Verdict.{Verdict}
 use Rattle.bp_run.specs.Bodies.{Code}
 use Rattle.bp_run.specs.Configuration.{Configuration, not_ended}
-use Rattle.bp_run.specs.Story.{story, alone}
+use Rattle.bp_run.specs.Story.{alone}
 use Rattle.bp_run.proofs.Stories.{alone_is}
 use Rattle.bp_run.proofs.Injectors.{verdict_told}
 use Rattle.bp_code.specs.Code.{code_of}
