@@ -6,3 +6,6 @@ pub mod Asks
 pub mod Places
 pub mod ReasonLemmas
 pub mod WhyLemmas
+pub mod EachLive
+pub mod Reaches
+pub mod OneAnswer

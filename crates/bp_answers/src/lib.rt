@@ -4,6 +4,7 @@
 
 mod answer;
 mod asking;
+mod laws;
 mod reading;
 mod reasons;
 mod resting;
@@ -14,4 +15,5 @@ mod whys;
 
 pub use answer::{Answer, NoAnswer};
 pub use asking::state;
+pub use laws::{each_live_is_told, one_state, one_why};
 pub use whys::why;

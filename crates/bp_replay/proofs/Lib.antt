@@ -7,3 +7,4 @@ pub mod Steps
 pub mod Shows
 pub mod Loop
 pub mod Opened
+pub mod Alike

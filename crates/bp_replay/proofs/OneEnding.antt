@@ -79,7 +79,7 @@ same_course c d v p o r h k =
 -- ---- how far two readings of the same bytes came
 
 -- the bytes go on with a further record
-record Further (t : Stage) (left : List ℕ) (rs ss : List Record) : Type 0 where
+pub record Further (t : Stage) (left : List ℕ) (rs ss : List Record) : Type 0 where
   pub next : Record
   pub more : List Record
   pub is : ss ≡ rs ++ next ∷ more
@@ -87,7 +87,7 @@ record Further (t : Stage) (left : List ℕ) (rs ss : List Record) : Type 0 wher
   pub reads : next_at t left ≡ found next rest
 
 -- both came as far
-record Together (t u : Stage) (left more : List ℕ) (rs ss : List Record) : Type 0 where
+pub record Together (t u : Stage) (left more : List ℕ) (rs ss : List Record) : Type 0 where
   pub records : rs ≡ ss
   pub stage : t ≡ u
   pub bytes : left ≡ more
@@ -100,7 +100,7 @@ further_at : (s t : Stage) (bytes left : List ℕ) (q : Record) (qs : List Recor
 further_at s t bytes left q qs rest e f h =
     record { next = q; more = qs; is = refl; rest = rest; reads = subst (λ (x : Stage). next_at x left ≡ found q rest) (sym e) (subst (λ (xs : List ℕ). next_at s xs ≡ found q rest) (sym f) h) }
 
-compared : (rs ss : List Record) (s : Stage) (bytes : List ℕ) (t u : Stage) (left more : List ℕ) → BeginsWith s bytes rs t left → BeginsWith s bytes ss u more →
+pub compared : (rs ss : List Record) (s : Stage) (bytes : List ℕ) (t u : Stage) (left more : List ℕ) → BeginsWith s bytes rs t left → BeginsWith s bytes ss u more →
     Together t u left more rs ss ⊎ (Further t left rs ss ⊎ Further u more ss rs)
 compared [] [] s bytes t u left more b d = inl (record { records = refl; stage = b.0 ∙ sym d.0; bytes = b.1 ∙ sym d.1 })
 compared [] (q ∷ qs) s bytes t u left more b d = inr (inl (further_at s t bytes left q qs d.0 b.0 b.1 d.1))

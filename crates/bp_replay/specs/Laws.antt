@@ -1,5 +1,5 @@
 -- What is true of replays.
-use Rattle.std.specs.Prelude.{◌≡◌, ◌⊎◌, ℕ, true, List, Option, Some, Result, Ok, Err}
+use Rattle.std.specs.Prelude.{◌≡◌, ◌⊎◌, ℕ, true, List, [], Option, Some, Result, Ok, Err}
 use Rattle.js_program.specs.PlainProgram.{PlainProgram}
 use Rattle.bp_base.specs.Pieces.{Appends}
 use Rattle.bp_log.specs.Header.{PlainHeader}
@@ -13,6 +13,9 @@ use Rattle.bp_reading.specs.Laws.{IsHeader, AreRecords, Stands}
 use Rattle.bp_reader.specs.declared.fault.LogFault.TheVariants as log
 use Rattle.bp_script.specs.Programs.{IsProgram}
 use Rattle.bp_code.specs.Code.{text_of}
+use Rattle.bp_migrate.specs.declared.fault.MigrateFault.{MigrateFault}
+use Rattle.bp_migrate.specs.Copies.{IsAtItsEnd}
+use Rattle.bp_migrate.specs.Migrations.{IsMigration}
 use Rattle.bp_replay.specs.declared.fault.ReplayFault.{ReplayFault}
 use Rattle.bp_replay.specs.declared.fault.ReplayFault.TheVariants.{Log, Differs, Program, Write, Memory}
 use Rattle.bp_replay.specs.Replays.{IsReplay}
@@ -92,4 +95,14 @@ OneEnding =
     (bytes : List ℕ) (before after other later : Option (List ℕ))
     (x y : Result Verdict ReplayFault) →
     IsReplay bytes before after x → IsReplay bytes other later y →
+    IsTrouble x ⊎ (IsTrouble y ⊎ ((x ≡ y) × PrintOne before after other later))
+
+-- The bytes of a log that is whole or cut, and what a migration makes of them, replay alike: they end in
+-- the same way and print the same text, unless reading or writing failed or memory ran out.
+abbrev pub ReplaysAlike : Type 0
+ReplaysAlike =
+    (bytes copied : List ℕ) (migrated : Result (Unit {0}) MigrateFault)
+    (before after other later : Option (List ℕ)) (x y : Result Verdict ReplayFault) →
+    IsMigration bytes (Some []) (Some copied) migrated → IsAtItsEnd migrated →
+    IsReplay bytes before after x → IsReplay copied other later y →
     IsTrouble x ⊎ (IsTrouble y ⊎ ((x ≡ y) × PrintOne before after other later))

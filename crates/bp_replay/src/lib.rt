@@ -9,5 +9,5 @@ mod telling;
 
 pub use fault::ReplayFault;
 pub use following::follow;
-pub use laws::{logs_of_stories_replay, one_ending, replays_tell_the_run};
+pub use laws::{logs_of_stories_replay, one_ending, replays_alike, replays_tell_the_run};
 pub use replaying::{Replayed, replay};

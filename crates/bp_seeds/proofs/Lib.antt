@@ -3,3 +3,4 @@ pub mod Places
 pub mod Runs
 pub mod Sweeping
 pub mod Told
+pub mod AddingUp

@@ -125,7 +125,7 @@ all_append : (es fs : List (ℕ × List ℕ)) (xs : List Counted) → count_all 
 all_append [] fs xs = refl
 all_append (e ∷ es) fs xs = all_append es fs (count_one e xs)
 
-abbrev onto : ℕ → List (ℕ × List ℕ) → Option (List ℕ) → List (ℕ × List ℕ)
+abbrev pub onto : ℕ → List (ℕ × List ℕ) → Option (List ℕ) → List (ℕ × List ℕ)
 onto seed es None = es
 onto seed es (Some k) = (seed, k) ∷ es
 
@@ -133,7 +133,7 @@ onto_append : (seed : ℕ) (es fs : List (ℕ × List ℕ)) (k : Option (List �
 onto_append seed es fs None = refl
 onto_append seed es fs (Some k) = refl
 
-ends_on : (kind : ℕ → Option (List ℕ)) (n seed : ℕ) (k : Option (List ℕ)) → kind seed ≡ k → ends_from kind (suc n) seed ≡ onto seed (ends_from kind n (seed + 1)) k
+pub ends_on : (kind : ℕ → Option (List ℕ)) (n seed : ℕ) (k : Option (List ℕ)) → kind seed ≡ k → ends_from kind (suc n) seed ≡ onto seed (ends_from kind n (seed + 1)) k
 ends_on kind n seed k h = ap (onto seed (ends_from kind n (seed + 1))) h
 
 nothing_first : (kind : ℕ → Option (List ℕ)) (m seed : ℕ) → ends_from kind (zero + m) seed ≡ ends_from kind m (seed + zero)
@@ -178,7 +178,7 @@ pub total_more : (e : Counted) (xs : List Counted) → total (count_more e xs) �
 total_more e [] = omega arith
 total_more e (x ∷ xs) = total_more_by e x xs (bytes_eq x.kind e.kind) refl (total_more e xs)
 
-total_all : (es : List (ℕ × List ℕ)) (xs : List Counted) → total (count_all es xs) ≡ total xs + length es
+pub total_all : (es : List (ℕ × List ℕ)) (xs : List Counted) → total (count_all es xs) ≡ total xs + length es
 total_all [] xs = omega arith
 total_all (e ∷ es) xs =
     let more : total (count_one e xs) ≡ total xs + 1 = total_more (one e) xs in

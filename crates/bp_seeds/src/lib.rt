@@ -3,7 +3,9 @@
 
 mod counts;
 mod ending;
+mod laws;
 mod running;
 mod sweep;
 
+pub use laws::counts_add_up;
 pub use sweep::{Sweep, sweep_text};

@@ -1,5 +1,5 @@
 //! Text that waits to be written, so that the outside gets few and large pieces.
-ghost use Rattle.std.specs.Prelude.{◌≡◌, ◌≤◌, ◌++◌, [], Some, IfOk, OnOk, OnErr, IsErrOf};
+ghost use Rattle.std.specs.Prelude.{◌≡◌, ◌≤◌, ◌<◌, ◌++◌, ◌↔◌, [], length, Some, IsTrue, IfOk, OnOk, OnErr, IsErrOf};
 ghost use Rattle.bp_base.specs.Counts.{Rose};
 ghost use Rattle.bp_base.specs.Pieces.{Appends, AppendsFront};
 ghost use Rattle.bp_log.specs.Logs.{header_text, whole_record, records_text};
@@ -12,7 +12,7 @@ use bp_log::{Header, Line, Memory, PrintError, Record, print, write_header, writ
 use std::alloc::{AllocError, Global};
 use std::marker::Model;
 
-/// How many bytes wait at most before they are written.
+/// How many bytes wait before they are written: a page that has as many is full.
 const FULL: usize = 65_536;
 
 /// Text that was not written yet. Contracts see its bytes.
@@ -74,7 +74,9 @@ impl Page {
     }
 
     /// Whether as much waits as may.
-    pub(crate) fn is_full(&self) -> bool {
+    pub(crate) fn is_full(&self) -> bool
+        ensures { IsTrue result ↔ (FULL ≤ length self.now) }
+    {
         self.bytes.len() >= FULL
     }
 
@@ -137,8 +139,9 @@ impl Page {
         written
     }
 
-    /// Writes what waits if that is much. After a refusal a front of it was written.
+    /// Writes what waits if the page is full. After a refusal a front of it was written.
     pub fn spill<K: Sink>(&mut self, out: &mut K) -> Result<(), Failed>
+        ensures within { length self.new < FULL }
         ensures shows { OnOk result
             (Shows (K.written out.old) self.old self.new (K.written out.new)) }
         ensures front { OnErr result
@@ -153,7 +156,7 @@ impl Page {
         self.write(out)
     }
 
-    /// Puts the lines at the end, and writes what waits whenever that is much. After a refusal a
+    /// Puts the lines at the end, and writes what waits whenever the page is full. After a refusal a
     /// front of the text was written or waits.
     pub fn print<K: Sink>(
         &mut self,
@@ -165,6 +168,7 @@ impl Page {
             OnOk result (Shows (K.written out.old) text self.new (K.written out.new)) }
         ensures front { let text = self.old ++ lines_text lines.now in
             OnErr result (ShowsFront (K.written out.old) text self.new (K.written out.new)) }
+        ensures within { length self.old < FULL → OnOk result (length self.new < FULL) }
         ensures cause { IsErrOf result PrintError.Write
             → Rose (K.faults out.old) (K.faults out.new) }
         ensures counts { K.faults out.old ≤ K.faults out.new }
