@@ -106,8 +106,9 @@ impl<S: Source> Feed<S> {
     }
 
     /// Makes one turn: offers the item that is kept, or else reads to the end of one line and offers
-    /// its item. Of the bytes at most one line is dealt with. An item that finds no place is kept. The source is asked only where no whole line is
-    /// held, nor one that is too long.
+    /// its item. Of the bytes at most one line is dealt with. An item that finds no place is kept. Where a
+    /// whole line is held, or one that is too long, the source is asked for nothing; else no more than one
+    /// block comes once the line is whole. Where the source fails, the item is its fault.
     ///
     /// # Errors
     ///

@@ -189,8 +189,9 @@ impl<S: Source> LineReader<S> {
         Ok(item)
     }
 
-    /// Reads to the end of one line, and answers its item. None comes for a line that is skipped. The
-    /// source is asked only where no whole line is held.
+    /// Reads to the end of one line, and answers its item. None comes for a line that is skipped. Where a
+    /// whole line is held the source is asked for nothing; else no more than one block comes once the line
+    /// is whole. Where the source fails, the item is its fault.
     ///
     /// # Errors
     ///
