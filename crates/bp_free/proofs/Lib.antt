@@ -1,0 +1,9 @@
+pub mod Lines
+pub mod Further
+pub mod Open
+pub mod Reading
+pub mod Choosing
+pub mod Blockers
+pub mod Runs
+pub mod Auditing
+pub mod Rows
