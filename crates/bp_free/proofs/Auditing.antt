@@ -25,17 +25,10 @@ use Rattle.bp_free.specs.Traces.{FreeRun, IsTrace, free_text}
 use Rattle.bp_free.specs.Wrong.{IsFirstWrong, IsRight}
 use Rattle.bp_free.specs.Reasons.{line_in, reason_behind, reason_of}
 use Rattle.bp_free.specs.Audits.{IsNoTrace, IsPast}
+use Rattle.bp_free.specs.Reads.{Only, IsRead}
 use Rattle.bp_free.proofs.Lines.{lacks_line}
 use Rattle.bp_free.proofs.Further.{Comes, goes_on, adds, free_then, first_of, none_of}
-use Rattle.bp_free.proofs.Reading.{Only, only_none, only_longer, only_event, IsApart, NextLine, next_at, first_wrong, lines_append, lines_at, ByEvent, ByEnd, tail, one_more, apart_at, right_with}
-
--- so far the trace was read: these lines of the free run of these events were there, and these are ahead
-pub record IsRead {O S : Type 0} (l : Code O S) (o : PlainOptions) (bytes : List ℕ) (events : List PlainEvent) (s : Stand O) (said ahead : List Line) (rest : List ℕ) : Type 0 where
-  pub leads : free l o events ≡ Some s
-  pub lines : s.lines ≡ said ++ ahead
-  pub text : bytes ≡ lines_text said ++ rest
-  pub only : Only l o (lines_text said) events
-  pub past : IsPast l o events (length said)
+use Rattle.bp_free.proofs.Reading.{only_none, only_longer, only_event, IsApart, NextLine, next_at, first_wrong, lines_append, lines_at, ByEvent, ByEnd, tail, one_more, apart_at, right_with}
 
 -- the same with the last one apart
 same_last : (es fs : List PlainEvent) (e f : PlainEvent) → es ++ e ∷ [] ≡ fs ++ f ∷ [] → es ≡ fs

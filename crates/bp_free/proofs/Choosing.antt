@@ -24,9 +24,9 @@ use Rattle.bp_run.specs.Story.{line_of_choice}
 use Rattle.bp_reading.specs.Words.{compact_event_at, if_compact}
 use Rattle.bp_free.specs.Due.{Due, Ends, Goes, Idles, due}
 use Rattle.bp_free.specs.Free.{EndsBy, StopsAt, place_among, place_in, stop_of}
-use Rattle.bp_free.specs.Nexts.{AreReal}
+use Rattle.bp_free.specs.Nexts.{AreReal, MayBeNext}
 use Rattle.bp_free.specs.Reasons.{external_in, internal_in}
-use Rattle.bp_free.proofs.Reading.{NextLine, IsApart}
+use Rattle.bp_free.proofs.Reading.{IsApart}
 
 -- ---- an event is read back from its line
 
@@ -80,11 +80,11 @@ any_real e (c ∷ cs) a h = elim (or_cases (same_event e c) (list_any (same_even
   | inr there ↦ any_real e cs a.1 there
 ]
 
-if_any : (b : Bool) (q : Option ℕ) → (if b then Some None else None) ≡ Some q → b ≡ true
+pub if_any : (b : Bool) (q : Option ℕ) → (if b then Some None else None) ≡ Some q → b ≡ true
 if_any true q h = refl
 if_any false q h = absurd (none-some _ h)
 
-at_place : (i : ℕ) (e f : PlainEvent) (b : Bool) (q : Option ℕ) → same_event e f ≡ b → (if b then Some (Some i) else None) ≡ Some q → e ≡ f
+pub at_place : (i : ℕ) (e f : PlainEvent) (b : Bool) (q : Option ℕ) → same_event e f ≡ b → (if b then Some (Some i) else None) ≡ Some q → e ≡ f
 at_place i e f true q s h = same_event-sound e f s
 at_place i e f false q s h = absurd (none-some _ h)
 
@@ -100,7 +100,7 @@ placed_real x queue e q r h = placed_real_at x.inner x.outer queue e q r h
 
 -- ---- lines tell events apart
 
-same_goes : (x y : Enabled) → Goes x ≡ Goes y → x ≡ y
+pub same_goes : (x y : Enabled) → Goes x ≡ Goes y → x ≡ y
 same_goes x y h = ap (λ (d : Due). elim d [ Ends v ↦ x | Goes z ↦ z | Idles v ↦ x ]) h
 
 lines_apart : (e f : PlainEvent) (p q : Option ℕ) → IsEvent e → IsEvent f → line_text (line_of_choice f q) ≡ line_text (line_of_choice e p) → f ≡ e
@@ -127,9 +127,9 @@ module _ {O S : Type 0} (l : Code O S) (o : PlainOptions) (s : Stand O) where
   not_goes v x d (inr h) g = let q : Idles v ≡ Goes x = sym h ∙ g in absurd (cc)
 
   -- only this verdict
-  pub next_verdict : (v : Verdict) (d : Line) → (due l o s ≡ Ends v) ⊎ (due l o s ≡ Idles v) → NextLine l o s [] d → d ≡ trace.Verdict v
-  next_verdict v d h (inl n) = absurd (not_goes v n.2.enabled (due l o s) h n.2.goes)
-  next_verdict v d h (inr n) = n.2 ∙ ap (λ (w : Verdict). trace.Verdict w) (ends_by v n.0 (due l o s) h n.1)
+  pub next_verdict : (v : Verdict) (d : Line) → (due l o s ≡ Ends v) ⊎ (due l o s ≡ Idles v) → MayBeNext l o s d → d ≡ trace.Verdict v
+  next_verdict v d h (inl n) = absurd (not_goes v n.comes.enabled (due l o s) h n.comes.goes)
+  next_verdict v d h (inr n) = n.line ∙ ap (λ (w : Verdict). trace.Verdict w) (ends_by v n.verdict (due l o s) h n.ends)
 
   -- an event that can be selected and does not stop the run, or a verdict with which one does
   pub record NextChosen (x : Enabled) (d : Line) : Type 0 where
@@ -144,15 +144,14 @@ module _ {O S : Type 0} (l : Code O S) (o : PlainOptions) (s : Stand O) where
     pub stops : StopsAt l s x verdict
     pub line : d ≡ trace.Verdict verdict
 
-  pub next_open : (x : Enabled) (d : Line) → due l o s ≡ Goes x → NextLine l o s [] d → NextChosen x d ⊎ NextStop x d
+  pub next_open : (x : Enabled) (d : Line) → due l o s ≡ Goes x → MayBeNext l o s d → NextChosen x d ⊎ NextStop x d
   next_open x d g (inl n) =
-      let c = n.2 in
-      let z : c.enabled ≡ x = same_goes c.enabled x (sym c.goes ∙ g) in
+      let z : n.comes.enabled ≡ x = same_goes n.comes.enabled x (sym n.comes.goes ∙ g) in
       inl (record {
-        event = n.0;
-        place = c.place;
-        placed = ap (λ (w : Enabled). place_in w s.queue n.0) (sym z) ∙ c.placed;
-        goes = rw (c.reach_is, c.light) refl;
-        line = n.3;
+        event = n.event;
+        place = n.place;
+        placed = ap (λ (w : Enabled). place_in w s.queue n.event) (sym z) ∙ n.comes.placed;
+        goes = n.comes.free;
+        line = n.line;
       })
-  next_open x d g (inr n) = inr (record { verdict = n.0; stops = subst (EndsBy l s n.0) g n.1; line = n.2 })
+  next_open x d g (inr n) = inr (record { verdict = n.verdict; stops = subst (EndsBy l s n.verdict) g n.ends; line = n.line })

@@ -5,5 +5,6 @@ pub mod Reading
 pub mod Choosing
 pub mod Blockers
 pub mod Runs
+pub mod Alike
 pub mod Auditing
 pub mod Rows

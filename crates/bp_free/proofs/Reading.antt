@@ -22,6 +22,7 @@ use Rattle.bp_free.specs.Due.{Goes, due}
 use Rattle.bp_free.specs.Free.{IsFreeEnd, free, free_from, place_in}
 use Rattle.bp_free.specs.Traces.{FreeRun, free_text}
 use Rattle.bp_free.specs.Wrong.{IsFirstWrong, IsRight, first_lines}
+use Rattle.bp_free.specs.Reads.{Only}
 use Rattle.bp_free.proofs.Lines.{lacks_line}
 use Rattle.bp_free.proofs.Further.{Comes, adds, free_more, first_of, none_of, longer}
 use Rattle.bp_free.proofs.Open.{finished}
@@ -90,14 +91,10 @@ module _ {O S : Type 0} (l : Code O S) (o : PlainOptions) where
 
   -- ---- the events are known
 
-  -- each free run whose text begins with these bytes has these events first
-  abbrev pub Only : List ℕ → List PlainEvent → Type 0
-  Only front es = (w : FreeRun l o) (rest : List ℕ) → free_text w ≡ front ++ rest → (more : List PlainEvent) × (w.events ≡ es ++ more)
-
-  pub only_none : (front : List ℕ) → Only front []
+  pub only_none : (front : List ℕ) → Only l o front []
   only_none front = λ w rest h. (w.events, refl)
 
-  pub only_longer : (front more : List ℕ) (es : List PlainEvent) → Only front es → Only (front ++ more) es
+  pub only_longer : (front more : List ℕ) (es : List PlainEvent) → Only l o front es → Only l o (front ++ more) es
   only_longer front more es h = λ w rest e. h w (more ++ rest) (e ∙ append_assoc front more rest)
 
   not_so : ◌≡◌ {A = ℕ} 118 101 → ⊥
@@ -128,8 +125,8 @@ module _ {O S : Type 0} (l : Code O S) (o : PlainOptions) where
       (t.later, k ∙ ap (λ (fs : List PlainEvent). es ++ fs) (t.is ∙ ap (λ (f : PlainEvent). f ∷ t.later) same) ∙ sym (append_assoc es (e ∷ []) t.later))
 
   -- after the line of an event
-  pub only_event : (es : List PlainEvent) (e : PlainEvent) (place : Option ℕ) (s : Stand O) → free l o es ≡ Some s → IsApart s e place → Only (lines_text s.lines) es →
-      Only (lines_text (s.lines ++ line_of_choice e place ∷ [])) (es ++ e ∷ [])
+  pub only_event : (es : List PlainEvent) (e : PlainEvent) (place : Option ℕ) (s : Stand O) → free l o es ≡ Some s → IsApart s e place → Only l o (lines_text s.lines) es →
+      Only l o (lines_text (s.lines ++ line_of_choice e place ∷ [])) (es ++ e ∷ [])
   unfolding lines_text
   only_event es e place s h a known = λ w rest k.
       let at = k ∙ lines_at s.lines (line_of_choice e place) [] rest in
@@ -276,7 +273,7 @@ module _ {O S : Type 0} (l : Code O S) (o : PlainOptions) where
       let m = mapped (λ f. lines_text said ++ f) (first_lines 1 rest) front (sym (lines_past said 1 rest) ∙ h) in
       (m.0, first_line rest m.0 m.1, sym m.2)
 
-  pub wrong_line : (es : List PlainEvent) (s : Stand O) (said ahead : List Line) (rest : List ℕ) → free l o es ≡ Some s → s.lines ≡ said ++ ahead → Only (lines_text said) es →
+  pub wrong_line : (es : List PlainEvent) (s : Stand O) (said ahead : List Line) (rest : List ℕ) → free l o es ≡ Some s → s.lines ≡ said ++ ahead → Only l o (lines_text said) es →
       ((d : Line) (more : List ℕ) → NextLine s ahead d → rest ≡ line_text d ++ 10 ∷ more → ⊥) → ¬ IsRight l o (lines_text said ++ rest) (length said + 1)
   wrong_line es s said ahead rest h e known none right =
       let m = one_more said rest right.front right.there in
@@ -290,7 +287,7 @@ module _ {O S : Type 0} (l : Code O S) (o : PlainOptions) where
       let c = cut_same 10 (line_text n.line) f.line n.rest right.begins.rest (lacks_line n.line) f.short both in
       none n.line f.rest n.next (f.bytes_are ∙ ap (λ (x : List ℕ). x ++ 10 ∷ f.rest) (sym c.front))
 
-  pub first_wrong : (es : List PlainEvent) (s : Stand O) (said ahead : List Line) (rest : List ℕ) → free l o es ≡ Some s → s.lines ≡ said ++ ahead → Only (lines_text said) es →
+  pub first_wrong : (es : List PlainEvent) (s : Stand O) (said ahead : List Line) (rest : List ℕ) → free l o es ≡ Some s → s.lines ≡ said ++ ahead → Only l o (lines_text said) es →
       ((d : Line) (more : List ℕ) → NextLine s ahead d → rest ≡ line_text d ++ 10 ∷ more → ⊥) → IsFirstWrong l o (lines_text said ++ rest) (length said + 1)
   first_wrong es s said ahead rest h e known none = record {
     counted = omega arith;

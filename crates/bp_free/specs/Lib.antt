@@ -5,4 +5,5 @@ pub mod Traces
 pub mod Wrong
 pub mod Reasons
 pub mod Audits
+pub mod Reads
 pub mod Answers
