@@ -1,9 +1,11 @@
 #!/bin/sh
 # Looks whether the pages agree with the crates: the order of crates.txt, the headings and rows of docs/MAP.md, and the files of
-# definitions, laws and clauses that the pages name. Proves nothing and takes some seconds. Ends with a line `N passed, M failed`.
+# definitions, laws and clauses, the scripts and the pages that they name. Proves nothing and takes some seconds. Ends with a line
+# `N passed, M failed`.
 cd "$(dirname "$0")/.." || exit 1
 passed=0 failed=0
 room=$(mktemp -d) && trap 'rm -rf "$room"' EXIT || exit 1
+pages="docs/*.md README.md CONTRIBUTING.md"
 export LC_ALL=C
 
 # says WHAT FOUND: passed, if nothing was found
@@ -30,8 +32,8 @@ says "docs/MAP.md: other groups or crates than crates.txt" "$(
 
 # Files of definitions in the rows of the map: specs/NAME, and the names after it in the same cell.
 says "docs/MAP.md: files of definitions that are not there" "$(awk -F'|' '
-    /^\| `(bp|js)/ && NF > 5 {
-        crate = $2; gsub(/[ `]/, "", crate); cell = $5
+    /^\| `(bp|js)/ && NF > 4 {
+        crate = $2; gsub(/[ `]/, "", crate); cell = $4
         sub(/, over .*/, "", cell); gsub(/`[a-z]+_[a-z]+`/, "", cell); gsub(/\([^)]*\)/, "", cell)
         while (match(cell, /`(specs\/)?[A-Z][A-Za-z]*`/)) {
             name = substr(cell, RSTART + 1, RLENGTH - 2); sub(/^specs\//, "", name)
@@ -44,16 +46,30 @@ says "docs/MAP.md: files of definitions that are not there" "$(awk -F'|' '
 
 # Every file of a crate that a page names by its path.
 says "pages: files of crates that are not there" "$(
-    grep -oh '`[a-z]*_[a-z]*/\(src\|specs\|proofs\)/[A-Za-z_/.]*`' docs/*.md README.md | tr -d '`' | sort -u | while read -r file; do
+    # shellcheck disable=SC2086
+    grep -oh '`[a-z]*_[a-z]*/\(src\|specs\|proofs\)/[A-Za-z_/.]*`' $pages | tr -d '`' | sort -u | while read -r file; do
         [ -e "crates/$file" ] || [ -e "crates/$file.antt" ] || echo "$file"
+    done)"
+
+# Every script, page and example that a page names by its path, and every script at the top.
+says "pages: files that are not there" "$(
+    # shellcheck disable=SC2086
+    {
+        grep -ohE '(^|[^A-Za-z0-9_/])(docs|tests|bench|examples|editor|[.]ci)/[A-Za-z0-9_./-]*[A-Za-z0-9]' $pages | grep -oE '[.a-z].*'
+        grep -ohE 'sh [.]/[a-z]+' $pages | sed 's/^sh //'
+        grep -ohE 'cd crates/[a-z_]+' $pages | sed 's/^cd //'
+        grep -ohE '`[A-Z]+[.]md`' $pages | tr -d '`'
+    } | sort -u | while read -r file; do
+        [ -e "$file" ] || echo "$file"
     done)"
 
 # Every name of code in a page, in backticks, stands somewhere in the crates: with `_` in all pages, and types, files and definitions
 # that begin with a capital in those that lead to the crates (but for the words of BPjs in docs/MAP.md).
 says "pages: names that no crate has" "$(
     {
-        sed '/^```/,/^```/d' docs/*.md README.md | grep -oh '`[a-z]\+_[a-z_]\+`'
-        sed -e '/^```/,/^```/d' -e '/^## Words of this house/,/^## /d' docs/MAP.md docs/PROVED.md docs/RUNS.md docs/MEANING.md docs/DECISIONS.md README.md |
+        # shellcheck disable=SC2086
+        sed '/^```/,/^```/d' $pages | grep -oh '`[a-z]\+_[a-z_]\+`'
+        sed -e '/^```/,/^```/d' -e '/^## Words of this house/,/^## /d' docs/MAP.md docs/PROVED.md docs/RUNS.md docs/MEANING.md docs/NAMES.md docs/DECISIONS.md CONTRIBUTING.md README.md |
             grep -oh '`[A-Z][A-Za-z]*[a-z][A-Za-z]*`'
     } | tr -d '`' | sort -u > "$room/names"
     find crates -name out -prune -o \( -name '*.rt' -o -name '*.antt' \) -print | xargs cat crates.txt | grep -o '[A-Za-z_][A-Za-z0-9_]*' |

@@ -1,6 +1,6 @@
 // What an editor that reads TypeScript's declarations has to know of a script of `bp`, so that it completes the forms of `bp`, and
 // marks much of what JavaScript has and the language has not. It is used with a `jsconfig.json` as in `examples/`, where no other
-// library is read. `docs/LANGUAGE.md` is the language, and says what is not marked.
+// library is read. `docs/LANGUAGE.md` is the language; `docs/WRITING.md` says what is not marked.
 
 /** What an event can carry, and what texts of lists and fields are made of. */
 type Data = null | boolean | number | string | readonly Data[] | {readonly [key: string]: Data};

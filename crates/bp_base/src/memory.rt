@@ -1,5 +1,5 @@
 //! A source and a sink in memory, which tell all, and fail at the calls that their lists name.
-ghost use Rattle.std.specs.Prelude.{◌≡◌, ◌≤◌, ◌+◌, ◌<◌, [], length, take, drop, min, IfOk, OnErr, is_err, if◌then◌else◌};
+ghost use Rattle.std.specs.Prelude.{◌≡◌, ◌≤◌, ◌+◌, ◌<◌, [], length, take, drop, min, IfOk, OnOk, OnErr, is_err, if◌then◌else◌};
 ghost use Rattle.bp_base.specs.Counts.{Rose, raised};
 ghost use Rattle.bp_base.specs.Pieces.{Gives, Appends};
 ghost use Rattle.bp_base.specs.inner.Calls.{is_to_fail, called, planned};
@@ -75,6 +75,7 @@ impl Source for MemorySource {
         ensures end { 0 < length into.old → IfOk result (λ n. n ≡ 0 → self.old.left ≡ []) }
         ensures failed { OnErr result (self.new.left ≡ self.old.left) }
         ensures cause { OnErr result (Rose self.old.faults self.new.faults) }
+        ensures spares { OnOk result (self.new.faults ≡ self.old.faults) }
         ensures counts { self.old.faults ≤ self.new.faults }
 
         // It fails exactly where this call is to fail, and else moves all that the buffer takes.

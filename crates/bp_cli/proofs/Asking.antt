@@ -1,19 +1,21 @@
 -- What commands ask of the world.
-use Rattle.std.proofs.Common.{◌≡◌, ℕ, List, [], ◌∷◌, ◌++◌, take, drop, refl, sym, ap, subst, ◌∙◌, append-nil, append_assoc, inl, inr}
+use Rattle.std.proofs.Common.{◌≡◌, ℕ, zero, suc, ◌<◌, List, [], ◌∷◌, ◌++◌, length, take, drop, refl, sym, ap, subst, ◌∙◌, append-nil, append_assoc, inl, inr, arith}
 use Rattle.std.specs.Prelude.{◌⊎◌, Option, Some, None, Err, Ok, IsErrOf, IfSome, option_to_list}
 use Rattle.std.proofs.lemmas.List.{take-append-drop}
+use Rattle.std.proofs.Math.Seq.{take-length}
 use mathlib.Core.List.{IsPrefix}
 use Rattle.bp_base.specs.Worlds.{Holdings, Asks}
 use Rattle.bp_base.specs.declared.outside.WorldError.{WorldError}
 use Rattle.js_program.specs.PlainProgram.{PlainProgram}
 use Rattle.bp_log.specs.declared.record.Record.{Record}
+use Rattle.bp_script.specs.declared.refusal.Refusal.{Refusal}
 use Rattle.bp_args.specs.declared.command.Command.{Command}
 use Rattle.bp_args.specs.declared.command.Command.TheVariants as command
 use Rattle.bp_args.specs.declared.command.Run.{Run}
 use Rattle.bp_cli.specs.declared.conclusion.Conclusion.{Conclusion}
 use Rattle.bp_cli.specs.declared.conclusion.Conclusion.TheVariants.{Refused, Ran, NotRead, NotWritten, NoMemory}
 use Rattle.bp_cli.specs.Outside.{Outside}
-use Rattle.bp_cli.specs.Asking.{names_of, WasAsked, AsksFor, AsksIn}
+use Rattle.bp_cli.specs.Asking.{names_of, WasAsked, WasAskedSome, WasAskedAtMost, AsksFor, AsksIn}
 use Rattle.bp_cli.specs.inner.Outcomes.{unopened_of, unmade_of}
 use Rattle.bp_cli.specs.inner.Unloaded.{IsUnloaded}
 use Rattle.bp_cli.specs.Runs.{RunEnds}
@@ -77,6 +79,58 @@ asks_unloaded c name rest holds before after NotRead e u (inr h) = first_asked c
 asks_unloaded c name rest holds before after NoMemory e u (inl h) = ([], prefix_nil (names_of c), asks_same before after h.1)
 asks_unloaded c name rest holds before after NoMemory e u (inr h) = first_asked c name rest NoMemory before after e (rest, refl) h
 asks_unloaded c name rest holds before after _ e u h = absurd u
+
+-- ---- before the log
+
+-- some of the first of these names are not all of them
+fewer : (n : ℕ) (xs : List (List ℕ)) (last : List ℕ) → (m : ℕ) × (m < length (xs ++ last ∷ [])) × (take n xs ≡ take m (xs ++ last ∷ []))
+fewer zero [] last = (0, omega arith, refl)
+fewer zero (x ∷ xs) last = (0, omega arith, refl)
+fewer (suc n) [] last = (0, omega arith, refl)
+fewer (suc n) (x ∷ xs) last =
+    let f = fewer n xs last in
+    let less = f.1 in
+    (suc f.0, omega (arith, less), ap (λ (t : List (List ℕ)). x ∷ t) f.2)
+
+-- a run that was asked to keep a log has not asked for it
+abbrev pub IsBeforeLog : Run → Option (List (List ℕ)) → Option (List (List ℕ)) → Type 0
+IsBeforeLog asked before after = IfSome asked.log (λ name. WasAskedSome before (names_of (command.Run asked)) after)
+
+before_log : (program : List ℕ) (injectors : List (List ℕ)) (log : Option (List ℕ)) (n : ℕ) (before after : Option (List (List ℕ))) → WasAsked before (take n (program ∷ injectors)) after →
+    IfSome log (λ name. WasAskedSome before (program ∷ (injectors ++ option_to_list log)) after)
+before_log program injectors None n before after h = tt
+before_log program injectors (Some name) n before after h =
+    let f = fewer n (program ∷ injectors) name in
+    (f.0, f.1, subst (λ (xs : List (List ℕ)). WasAsked before xs after) f.2 h)
+
+-- it asked for the first of its names alone, or for none
+pub log_unloaded : (asked : Run) (name : List ℕ) (P : Type 0) (before after : Option (List (List ℕ))) → name ≡ asked.program → ((P × (after ≡ before)) ⊎ Asks before name after) → IsBeforeLog asked before after
+log_unloaded asked name P before after e (inl h) = before_log asked.program asked.injectors asked.log 0 before after (asks_same before after h.1)
+log_unloaded asked name P before after e (inr h) = before_log asked.program asked.injectors asked.log 1 before after (subst (λ (x : List ℕ). Asks before x after) e h)
+
+-- it asked for some injectors
+pub log_unopened : (asked : Run) (name : List ℕ) (n : ℕ) (before mid after : Option (List (List ℕ))) → name ≡ asked.program → Asks before name mid → WasAsked mid (take n asked.injectors) after → IsBeforeLog asked before after
+log_unopened asked name n before mid after e a b =
+    before_log asked.program asked.injectors asked.log (suc n) before after (asks_on before mid after (asked.program ∷ []) (take n asked.injectors) (subst (λ (x : List ℕ). Asks before x mid) e a) b)
+
+-- it asked for all of them
+pub log_unmade : (asked : Run) (name : List ℕ) (before mid after : Option (List (List ℕ))) → name ≡ asked.program → Asks before name mid → WasAsked mid asked.injectors after → IsBeforeLog asked before after
+log_unmade asked name before mid after e a b =
+    log_unopened asked name (length asked.injectors) before mid after e a (subst (λ (xs : List (List ℕ)). WasAsked mid xs after) (sym (take-length asked.injectors)) b)
+
+-- the name of its program was asked for, or none
+pub at_most_unloaded : (name program : List ℕ) (P : Type 0) (before after : Option (List (List ℕ))) → name ≡ program → ((P × (after ≡ before)) ⊎ Asks before name after) → WasAskedAtMost before program after
+at_most_unloaded name program P before after e (inl h) = ([], prefix_nil (program ∷ []), asks_same before after h.1)
+at_most_unloaded name program P before after e (inr h) = (program ∷ [], prefix_all (program ∷ []), subst (λ (x : List ℕ). Asks before x after) e h)
+
+-- a run whose program is refused asked for that alone
+pub refused_asked : (asked : Run) (before after : Option (List (List ℕ))) (refusal : Refusal) → AsksIn (Some (command.Run asked)) before after (Refused refusal) → WasAskedAtMost before asked.program after
+refused_asked asked before after refusal (names, (first, h)) = (names, (subst (λ (xs : List (List ℕ)). IsPrefix xs (asked.program ∷ [])) (sym first) (prefix_all (asked.program ∷ []))), h)
+
+-- a refused run asked for its program
+pub log_refused : (asked : Run) (before after : Option (List (List ℕ))) (refusal : Refusal) → AsksIn (Some (command.Run asked)) before after (Refused refusal) → IsBeforeLog asked before after
+log_refused asked before after refusal (names, (first, h)) =
+    before_log asked.program asked.injectors asked.log 1 before after (subst (λ (xs : List (List ℕ)). WasAsked before xs after) first h)
 
 -- ---- others
 
@@ -164,3 +218,7 @@ some_asked _ names asked h = subst (λ (xs : List (List ℕ)). IsPrefix xs names
 pub asks_some : (c : Option Command) (before after : Option (List (List ℕ))) (k : Conclusion) → AsksIn c before after k → AsksIn c before after NoMemory
 asks_some None before after k h = h
 asks_some (Some c) before after k h = (h.0, some_asked k (names_of c) h.0 h.1, h.2)
+
+-- to accept a program asks for its name at most
+pub one_asked_at_most : (program : List ℕ) (before after : Option (List (List ℕ))) (k : Conclusion) → AsksIn (Some (command.Accept program)) before after k → WasAskedAtMost before program after
+one_asked_at_most program before after k h = (h.0, some_asked k (program ∷ []) h.0 h.1, h.2)

@@ -1,8 +1,9 @@
 -- How a command ends: from its parts, and with its note or without the memory for it.
-use Rattle.std.proofs.Common.{◌≡◌, ℕ, List, [], refl, sym, ap, subst, append-nil, inl, inr, Option, Some, None}
-use Rattle.std.specs.Prelude.{◌⊎◌, true, IsSome, IsSomeAnd, slice_index_or}
+use Rattle.std.proofs.Common.{◌≡◌, ◌∙◌, ℕ, List, [], length, refl, sym, ap, subst, append-nil, inl, inr, Option, Some, None}
+use Rattle.std.specs.Prelude.{◌⊎◌, true, Result, Ok, Err, IsSome, IsSomeAnd, slice_index_or}
 use Rattle.std.proofs.lemmas.Bool.{false≢true}
-use Rattle.bp_base.specs.Worlds.{Holdings}
+use Rattle.bp_base.specs.Counts.{Rose}
+use Rattle.bp_base.specs.Worlds.{Holdings, Asks}
 use Rattle.bp_base.specs.declared.outside.WorldError.{WorldError}
 use Rattle.bp_base.specs.Pieces.{Appends, AppendsFront}
 use Rattle.js_program.specs.PlainProgram.{PlainProgram}
@@ -11,6 +12,12 @@ use Rattle.bp_log.specs.Logs.{log_text}
 use Rattle.bp_log.specs.declared.version.Version.TheVariants.{Second}
 use Rattle.bp_log.specs.Options.{PlainOptions}
 use Rattle.bp_log.specs.declared.record.Record.{Record}
+use Rattle.bp_log.specs.declared.verdict.Verdict.{Verdict}
+use Rattle.bp_reader.specs.declared.fault.LogFault.TheVariants as log_fault
+use Rattle.bp_replay.specs.declared.fault.ReplayFault.{ReplayFault}
+use Rattle.bp_replay.specs.declared.fault.ReplayFault.TheVariants as replay_fault
+use Rattle.bp_migrate.specs.declared.fault.MigrateFault.{MigrateFault}
+use Rattle.bp_migrate.specs.declared.fault.MigrateFault.TheVariants as migrate_fault
 use Rattle.bp_run.specs.Story.{story, story_from}
 use Rattle.bp_run.specs.Text.{text}
 use Rattle.bp_code.specs.Code.{text_of}
@@ -21,17 +28,20 @@ use Rattle.bp_args.specs.declared.command.Command.TheVariants as command
 use Rattle.bp_args.specs.declared.command.Run.{Run}
 use Rattle.bp_cli.specs.declared.conclusion.Conclusion.{Conclusion}
 use Rattle.bp_cli.specs.declared.conclusion.Conclusion.TheVariants.{NoCommand, Refused, Accepted, Ran, NotRead, NotWritten, NoMemory, BadLog, Migrated}
-use Rattle.bp_cli.specs.Outside.{Outside, WriteFailed, NeverFalls, IsAsBefore, IsUnder}
-use Rattle.bp_cli.specs.Texts.{accepted_line, LineEnds}
+use Rattle.bp_cli.specs.Outside.{Outside, NeverFalls, IsAsBefore, IsUnder}
+use Rattle.bp_cli.specs.Texts.{IsAcceptedUnder, accepted_line, LineEnds}
 use Rattle.bp_cli.specs.Conclusions.{IsStatusOf}
-use Rattle.bp_cli.specs.inner.Outcomes.{has_note, unmade_of}
-use Rattle.bp_cli.specs.Asking.{AsksIn}
-use Rattle.bp_cli.specs.Endings.{IsCaused, Does, EndsIn, Ends}
+use Rattle.bp_cli.specs.inner.Outcomes.{has_note, unopened_of, unmade_of}
+use Rattle.bp_cli.specs.Asking.{WasAskedAtMost, AsksIn}
+use Rattle.bp_cli.specs.Endings.{IsCaused, IsUnread, Does, CanEnd, EndsIn, Ends}
 use Rattle.bp_cli.specs.Large.{Measures}
+use Rattle.bp_cli.specs.Replaying.{replayed_of}
+use Rattle.bp_cli.specs.Migrating.{migrated_of}
 use Rattle.bp_cli.specs.inner.Unloaded.{IsUnloaded}
 use Rattle.bp_cli.specs.inner.Opening.{AreOpened}
 use Rattle.bp_cli.specs.Runs.{Holds, KeepsLog, KeepsLogFront, TellsWhole, TellsPartly, RunEnds, IsRunOf, header_of}
-use Rattle.bp_cli.proofs.Asking.{asks_some}
+use Rattle.bp_cli.proofs.Asking.{IsBeforeLog, asks_some, at_most_unloaded, refused_asked, log_unloaded, log_refused}
+use Rattle.bp_cli.proofs.Beginnings.{as_many, beginning}
 use Rattle.bp_cli.proofs.Injected.{Brought, brought_none, all_of}
 use Rattle.bp_cli.proofs.Replays.{front_of, replay_partly}
 use Rattle.bp_cli.proofs.Migrations.{migration_partly}
@@ -105,38 +115,40 @@ tells_partly asked bytes program records before after t =
 
 ends_partly : (asked : Run) (bytes : List ℕ) (records : List Record) (before after : Outside) (c d : Conclusion) (r : IsRunOf asked bytes records before after c) → RunEnds asked bytes r.program records before after r.inputs d → IsRunOf asked bytes records before after d
 ends_partly asked bytes records before after c d r e =
-    record { program = r.program; is_program = r.is_program; inputs = r.inputs; under = r.under; merge = r.merge; alone = r.alone; ends = e }
+    record { program = r.program; is_program = r.is_program; inputs = r.inputs; under = r.under; merge = r.merge; alone = r.alone; begins = r.begins; ends = e }
 
 pub does_run : (asked : Run) (bytes : List ℕ) (records : List Record) (before after : Outside) (c : Conclusion) → IsUnder before.holds asked.program bytes → IsRunOf asked bytes records before after c → Does (command.Run asked) records before after c
 does_run asked bytes records before after (Refused refusal) u r = absurd r.ends
 does_run asked bytes records before after _ u r = (bytes, u, r)
 
-unkept : (name : Option (List ℕ)) (header : PlainHeader) (program : PlainProgram) (before after : Outside) → IsAsBefore before after → KeepsLogFront name header program [] before after
-unkept None header program before after same = same.1
-unkept (Some name) header program before after same = inl same
+unkept : (name : Option (List ℕ)) (header : PlainHeader) (program : PlainProgram) (before after : Outside) → Rose before.write_faults after.write_faults → IsAsBefore before after → KeepsLogFront name header program [] before after
+unkept None header program before after failed same = same.1
+unkept (Some name) header program before after failed same = inl (failed, same)
 
 -- the log was not made
-pub unmade_run : {S : Type 0} (left : S → Option (List ℕ)) (faults : S → ℕ) (asked : Run) (bytes : List ℕ) (program : PlainProgram) (before after : Outside) → IsProgram bytes program → Brought left faults before.holds asked.injectors [] ⊥ → IsAsBefore before after →
+pub unmade_run : {S : Type 0} (left : S → Option (List ℕ)) (faults : S → ℕ) (asked : Run) (bytes : List ℕ) (program : PlainProgram) (before after : Outside) → IsProgram bytes program → asked.options.injectors ≡ length asked.injectors → Brought left faults before.holds asked.injectors [] ⊥ → Rose before.write_faults after.write_faults → IsAsBefore before after →
     IsRunOf asked bytes [] before after NotWritten
-unmade_run left faults asked bytes program before after p b same = record {
+unmade_run left faults asked bytes program before after p n b failed same = record {
   program = program;
   is_program = p;
   inputs = b.inputs;
   under = b.under;
   merge = b.merge;
-  alone = λ n. (_, refl);
-  ends = record { prints = some_front (text_of program asked.options []) before.printed after.printed (first_text program asked.options) same.0; keeps = unkept asked.log (header_of asked bytes) program before after same };
+  alone = λ none. (_, refl);
+  begins = beginning asked program [] b.inputs before after (as_many before.holds asked.injectors b.inputs b.under ∙ sym n) b.merge (some_front (text_of program asked.options []) before.printed after.printed (first_text program asked.options) same.0);
+  ends = record { prints = some_front (text_of program asked.options []) before.printed after.printed (first_text program asked.options) same.0; keeps = unkept asked.log (header_of asked bytes) program before after failed same };
 }
 
 -- and so the command ended
 pub unmade_ends : {S : Type 0} (left : S → Option (List ℕ)) (faults : S → ℕ) (asked : Run) (bytes : List ℕ) (program : PlainProgram) (sources : List S) (error : WorldError) (c : Conclusion) (records : List Record) (before after : Outside) → records ≡ [] → c ≡ unmade_of error →
-    IsUnder before.holds asked.program bytes → IsProgram bytes program → AreOpened left faults before.holds asked.injectors sources → (error ≡ WorldError.Failed → WriteFailed before after) → IsAsBefore before after → EndsIn (Some (command.Run asked)) records before after c
-unmade_ends left faults asked bytes program sources WorldError.Failed c records before after n e u p o k same =
+    IsUnder before.holds asked.program bytes → IsProgram bytes program → asked.options.injectors ≡ length asked.injectors → AreOpened left faults before.holds asked.injectors sources → (error ≡ WorldError.Failed → Rose before.write_faults after.write_faults) →
+    (error ≡ WorldError.Memory → IsBeforeLog asked before.asked after.asked) → IsAsBefore before after → EndsIn (Some (command.Run asked)) records before after c
+unmade_ends left faults asked bytes program sources WorldError.Failed c records before after n e u p many o k m same =
     let b = brought_none left faults before.holds asked.injectors sources o (λ j d h. all_of (left (slice_index_or sources j d))) in
     subst (λ (x : Conclusion). EndsIn (Some (command.Run asked)) records before after x) (sym e)
-    (k refl, inr (bytes, u, subst (λ (rs : List Record). IsRunOf asked bytes rs before after NotWritten) (sym n) (unmade_run left faults asked bytes program before after p b same)))
-unmade_ends left faults asked bytes program sources WorldError.Memory c records before after n e u p o k same =
-    subst (λ (x : Conclusion). EndsIn (Some (command.Run asked)) records before after x) (sym e) (tt, inl (inr refl, (same, n)))
+    (inr (k refl), inr (bytes, u, subst (λ (rs : List Record). IsRunOf asked bytes rs before after NotWritten) (sym n) (unmade_run left faults asked bytes program before after p many b (k refl) same)))
+unmade_ends left faults asked bytes program sources WorldError.Memory c records before after n e u p many o k m same =
+    subst (λ (x : Conclusion). EndsIn (Some (command.Run asked)) records before after x) (sym e) (tt, inl ((inr refl, inr (bytes, u, (program, p)), m refl), (same, n)))
 
 -- ---- before anything was done
 
@@ -146,6 +158,26 @@ accept_unloaded program name before after (Refused refusal) e u k same = (tt, in
 accept_unloaded program name before after NotRead e u k same = (k, inl (inl refl, (same, refl)))
 accept_unloaded program name before after NoMemory e u k same = (tt, inl (inr refl, (same, refl)))
 accept_unloaded program name before after _ e u k same = absurd u
+
+unloaded_run : (asked : Run) (name : List ℕ) (before after : Outside) (c : Conclusion) → name ≡ asked.program → IsUnloaded before.holds name c → IsCaused before after c → WasAskedAtMost before.asked asked.program after.asked → IsBeforeLog asked before.asked after.asked → IsAsBefore before after →
+    EndsIn (Some (command.Run asked)) [] before after c
+unloaded_run asked name before after (Refused refusal) e u k a l same = (tt, inr ((u.0, subst (λ (x : List ℕ). IsUnder before.holds x u.0) e u.1, u.2), (same, refl)))
+unloaded_run asked name before after NotRead e u k a l same = (k, inl ((inl refl, inl a, l), (same, refl)))
+unloaded_run asked name before after NoMemory e u k a l same = (tt, inl ((inr refl, inl a, l), (same, refl)))
+unloaded_run asked name before after _ e u k a l same = absurd u
+
+pub run_unloaded : (asked : Run) (name : List ℕ) (records : List Record) (before after : Outside) (c k : Conclusion) → records ≡ [] → k ≡ c → name ≡ asked.program → IsUnloaded before.holds name c → IsCaused before after c →
+    (((c ≡ NoMemory) × (after.asked ≡ before.asked)) ⊎ Asks before.asked name after.asked) → IsAsBefore before after → EndsIn (Some (command.Run asked)) records before after k
+run_unloaded asked name records before after c k n e p u f a same =
+    subst (λ (rs : List Record). EndsIn (Some (command.Run asked)) rs before after k) (sym n)
+    (subst (λ (x : Conclusion). EndsIn (Some (command.Run asked)) [] before after x) (sym e)
+    (unloaded_run asked name before after c p u f (at_most_unloaded name asked.program (c ≡ NoMemory) before.asked after.asked p a) (log_unloaded asked name (c ≡ NoMemory) before.asked after.asked p a) same))
+
+-- an injector of a run was not opened
+pub run_unopened : (asked : Run) (error : WorldError) (records : List Record) (before after : Outside) (k : Conclusion) → records ≡ [] → k ≡ unopened_of error → (error ≡ WorldError.Failed → IsCaused before after NotRead) →
+    IsAcceptedUnder before.holds asked.program → IsBeforeLog asked before.asked after.asked → IsAsBefore before after → EndsIn (Some (command.Run asked)) records before after k
+run_unopened asked WorldError.Failed records before after k n e f u l same = subst (λ (x : Conclusion). EndsIn (Some (command.Run asked)) records before after x) (sym e) (f refl, inl ((inl refl, inr u, l), (same, n)))
+run_unopened asked WorldError.Memory records before after k n e f u l same = subst (λ (x : Conclusion). EndsIn (Some (command.Run asked)) records before after x) (sym e) (tt, inl ((inr refl, inr u, l), (same, n)))
 
 -- the cause of what was not loaded
 pub unloaded_caused : (holds : Option Holdings) (name : List ℕ) (before after : Outside) (c : Conclusion) → IsUnloaded holds name c → (c ≡ NotRead → IsCaused before after NotRead) → IsCaused before after c
@@ -159,13 +191,13 @@ unloaded_caused holds name before after _ u k = absurd u
 line_wanting : (line : List ℕ) (before after : Outside) → IsCaused before after NotWritten → LineEnds line before after NotWritten → LineEnds line before after NoMemory
 line_wanting line before after k h = inr (k, h)
 
-run_wanting : (asked : Run) (records : List Record) (before after : Outside) (c : Conclusion) → has_note c ≡ true → Does (command.Run asked) records before after c → EndsIn (Some (command.Run asked)) records before after NoMemory
-run_wanting asked records before after (Refused refusal) h d = (tt, inl (inr refl, d.1))
-run_wanting asked records before after NotRead h d = (tt, inr (d.0, d.1, ends_partly asked d.0 records before after NotRead NoMemory d.2 (tells_partly asked d.0 d.2.program records before after d.2.ends.1)))
-run_wanting asked records before after NotWritten h d = (tt, inr (d.0, d.1, ends_partly asked d.0 records before after NotWritten NoMemory d.2 d.2.ends))
-run_wanting asked records before after NoMemory h d = (tt, inr d)
-run_wanting asked records before after (Ran v) h d = absurd (false≢true h)
-run_wanting asked records before after _ h d = absurd d.2.ends
+run_wanting : (asked : Run) (records : List Record) (before after : Outside) (c : Conclusion) → AsksIn (Some (command.Run asked)) before.asked after.asked c → has_note c ≡ true → Does (command.Run asked) records before after c → EndsIn (Some (command.Run asked)) records before after NoMemory
+run_wanting asked records before after (Refused refusal) a h d = (tt, inl ((inr refl, inl (refused_asked asked before.asked after.asked refusal a), log_refused asked before.asked after.asked refusal a), d.1))
+run_wanting asked records before after NotRead a h d = (tt, inr (d.0, d.1, ends_partly asked d.0 records before after NotRead NoMemory d.2 (tells_partly asked d.0 d.2.program records before after d.2.ends.1)))
+run_wanting asked records before after NotWritten a h d = (tt, inr (d.0, d.1, ends_partly asked d.0 records before after NotWritten NoMemory d.2 d.2.ends))
+run_wanting asked records before after NoMemory a h d = (tt, inr d)
+run_wanting asked records before after (Ran v) a h d = absurd (false≢true h)
+run_wanting asked records before after _ a h d = absurd d.2.ends
 
 accept_wanting : (program : List ℕ) (records : List Record) (before after : Outside) (c : Conclusion) → has_note c ≡ true → IsCaused before after c → Does (command.Accept program) records before after c →
     EndsIn (Some (command.Accept program)) records before after NoMemory
@@ -191,24 +223,83 @@ large_wanting n records before after (Ran v) h k m = absurd (false≢true h)
 large_wanting n records before after _ h k m = none_some _ _ m.prints
 
 -- whatever noted conclusion a command ends in, memory may run out for the note
-wanting_note : (c : Option Command) (records : List Record) (before after : Outside) (k : Conclusion) → has_note k ≡ true → EndsIn c records before after k → EndsIn c records before after NoMemory
-wanting_note None records before after k h e = (inr refl, e.1)
-wanting_note (Some (command.Run asked)) records before after k h (e, inl n) = (tt, inl (inr refl, n.1))
-wanting_note (Some (command.Run asked)) records before after k h (e, inr d) = run_wanting asked records before after k h d
-wanting_note (Some (command.Accept program)) records before after k h (e, inl n) = (tt, inl (inr refl, n.1))
-wanting_note (Some (command.Accept program)) records before after k h (e, inr d) = accept_wanting program records before after k h e d
-wanting_note (Some (command.Replay log)) records before after k h (e, inl n) = (tt, inl (inr refl, n.1))
-wanting_note (Some (command.Replay log)) records before after k h (e, inr d) = (tt, inr (replay_partly log before after k d.0, d.1))
-wanting_note (Some (command.Migrate log)) records before after k h (e, inl n) = (tt, inl (inr refl, n.1))
-wanting_note (Some (command.Migrate log)) records before after k h (e, inr d) = (tt, inr (migration_partly log before after k d.0, d.1))
-wanting_note (Some (command.Large n)) records before after k h (e, inl m) = (tt, inl (refl, m.1))
-wanting_note (Some (command.Large n)) records before after k h (e, inr d) = (tt, inr (large_wanting n records before after k h e d))
+wanting_note : (c : Option Command) (records : List Record) (before after : Outside) (k : Conclusion) → AsksIn c before.asked after.asked k → has_note k ≡ true → EndsIn c records before after k → EndsIn c records before after NoMemory
+wanting_note None records before after k a h e = (inr refl, e.1)
+wanting_note (Some (command.Run asked)) records before after k a h (e, inl n) = (tt, inl ((inr refl, n.0.1, n.0.2), n.1))
+wanting_note (Some (command.Run asked)) records before after k a h (e, inr d) = run_wanting asked records before after k a h d
+wanting_note (Some (command.Accept program)) records before after k a h (e, inl n) = (tt, inl (inr refl, n.1))
+wanting_note (Some (command.Accept program)) records before after k a h (e, inr d) = accept_wanting program records before after k h e d
+wanting_note (Some (command.Replay log)) records before after k a h (e, inl n) = (tt, inl (inr refl, n.1))
+wanting_note (Some (command.Replay log)) records before after k a h (e, inr d) = (tt, inr (replay_partly log before after k d.0, d.1))
+wanting_note (Some (command.Migrate log)) records before after k a h (e, inl n) = (tt, inl (inr refl, n.1))
+wanting_note (Some (command.Migrate log)) records before after k a h (e, inr d) = (tt, inr (migration_partly log before after k d.0, d.1))
+wanting_note (Some (command.Large n)) records before after k a h (e, inl m) = (tt, inl (refl, m.1))
+wanting_note (Some (command.Large n)) records before after k a h (e, inr d) = (tt, inr (large_wanting n records before after k h e d))
+
+-- ---- the conclusions of each command
+
+unread_can : (k : Conclusion) (P : Conclusion → Type 0) → P NotRead → P NoMemory → IsUnread k → P k
+unread_can k P r m (inl e) = subst P (sym e) r
+unread_can k P r m (inr e) = subst P (sym e) m
+
+run_can : (asked : Run) (records : List Record) (before after : Outside) (k : Conclusion) → Does (command.Run asked) records before after k → CanEnd (Some (command.Run asked)) k
+run_can asked records before after (Refused refusal) d = tt
+run_can asked records before after (Ran v) d = tt
+run_can asked records before after NotRead d = tt
+run_can asked records before after NotWritten d = tt
+run_can asked records before after NoMemory d = tt
+run_can asked records before after _ d = absurd d.2.ends
+
+accept_can : (program : List ℕ) (records : List Record) (before after : Outside) (k : Conclusion) → Does (command.Accept program) records before after k → CanEnd (Some (command.Accept program)) k
+accept_can program records before after (Refused refusal) d = tt
+accept_can program records before after Accepted d = tt
+accept_can program records before after NotRead d = tt
+accept_can program records before after NotWritten d = tt
+accept_can program records before after NoMemory d = tt
+accept_can program records before after (Ran v) d = absurd d.2
+accept_can program records before after _ d = absurd d.2.1
+
+large_can : (n : ℕ) (records : List Record) (before after : Outside) (k : Conclusion) → Measures n records before after k → CanEnd (Some (command.Large n)) k
+large_can n records before after (Ran v) m = tt
+large_can n records before after NotWritten m = tt
+large_can n records before after NoMemory m = tt
+large_can n records before after _ m = absurd m.one_run
+
+replay_can : (log : List ℕ) (ended : Result Verdict ReplayFault) → CanEnd (Some (command.Replay log)) (replayed_of ended)
+replay_can log (Err (replay_fault.Log log_fault.Read)) = tt
+replay_can log (Err (replay_fault.Log log_fault.Memory)) = tt
+replay_can log (Err replay_fault.Write) = tt
+replay_can log (Err replay_fault.Memory) = tt
+replay_can log _ = tt
+
+migrate_can : (log : List ℕ) (ended : Result (Unit {0}) MigrateFault) → CanEnd (Some (command.Migrate log)) (migrated_of ended)
+migrate_can log (Err (migrate_fault.Log log_fault.Read)) = tt
+migrate_can log (Err (migrate_fault.Log log_fault.Memory)) = tt
+migrate_can log (Err migrate_fault.Write) = tt
+migrate_can log (Err migrate_fault.Memory) = tt
+migrate_can log _ = tt
+
+can_end : (c : Option Command) (records : List Record) (before after : Outside) (k : Conclusion) → EndsIn c records before after k → CanEnd c k
+can_end None records before after k (inl e, n) = subst (λ (x : Conclusion). CanEnd None x) (sym e) tt
+can_end None records before after k (inr e, n) = subst (λ (x : Conclusion). CanEnd None x) (sym e) tt
+can_end (Some (command.Run asked)) records before after k (e, inl n) = unread_can k (λ (x : Conclusion). CanEnd (Some (command.Run asked)) x) tt tt n.0.0
+can_end (Some (command.Run asked)) records before after k (e, inr d) = run_can asked records before after k d
+can_end (Some (command.Accept program)) records before after k (e, inl n) = unread_can k (λ (x : Conclusion). CanEnd (Some (command.Accept program)) x) tt tt n.0
+can_end (Some (command.Accept program)) records before after k (e, inr d) = accept_can program records before after k d
+can_end (Some (command.Replay log)) records before after k (e, inl n) = unread_can k (λ (x : Conclusion). CanEnd (Some (command.Replay log)) x) tt tt n.0
+can_end (Some (command.Replay log)) records before after k (e, inr d) = subst (λ (x : Conclusion). CanEnd (Some (command.Replay log)) x) (sym d.0.is_conclusion) (replay_can log d.0.ended)
+can_end (Some (command.Migrate log)) records before after k (e, inl n) = unread_can k (λ (x : Conclusion). CanEnd (Some (command.Migrate log)) x) tt tt n.0
+can_end (Some (command.Migrate log)) records before after k (e, inr d) = subst (λ (x : Conclusion). CanEnd (Some (command.Migrate log)) x) (sym d.0.is_conclusion) (migrate_can log d.0.ended)
+can_end (Some (command.Large n)) records before after k (e, inl m) = subst (λ (x : Conclusion). CanEnd (Some (command.Large n)) x) (sym m.0) tt
+can_end (Some (command.Large n)) records before after k (e, inr d) = large_can n records before after k d
+
+-- ---- status and note
 
 concluded_of : (c : Option Command) (records : List Record) (before after : Outside) (k : Conclusion) (status : ℕ) (note : List ℕ) →
     AsksIn c before.asked after.asked k → EndsIn c records before after k → (IsStatusOf status note k ⊎ ((has_note k ≡ true) × IsStatusOf status note NoMemory)) → Ends c before after status note records
-concluded_of c records before after k status note a e (inl s) = record { conclusion = k; status = s; asks = a; ends = e }
+concluded_of c records before after k status note a e (inl s) = record { conclusion = k; can = can_end c records before after k e; status = s; asks = a; ends = e }
 concluded_of c records before after k status note a e (inr s) =
-    record { conclusion = NoMemory; status = s.1; asks = asks_some c before.asked after.asked k a; ends = wanting_note c records before after k s.0 e }
+    record { conclusion = NoMemory; can = tt; status = s.1; asks = asks_some c before.asked after.asked k a; ends = wanting_note c records before after k a s.0 e }
 
 -- the status is that of the conclusion, or says that memory ran out
 pub concluded : (c : Option Command) (records told : List Record) (before after : Outside) (k : Conclusion) (status : ℕ) (note : List ℕ) → told ≡ records →

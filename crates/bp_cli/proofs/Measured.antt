@@ -1,5 +1,5 @@
 -- How measuring the large program ends.
-use Rattle.std.proofs.Common.{◌≡◌, ℕ, List, [], refl, sym, ap, subst, ◌∙◌, inl, Option, Some, None}
+use Rattle.std.proofs.Common.{◌≡◌, ℕ, List, [], length, refl, sym, ap, subst, ◌∙◌, arith, inl, Option, Some, None}
 use Rattle.std.specs.Prelude.{IsSome, IsSomeAnd}
 use mathlib.Core.List.{IsPrefix}
 use Rattle.bp_base.specs.Memory.{Store, Supply}
@@ -43,7 +43,7 @@ written_all (Some x) start now w s n h =
 -- how a session ended whose output and whose log, if there is one, are in memory
 abbrev EndsAside : PlainOptions → PlainProgram → List Record → List ℕ → Store → Store → Option Store → Option Store → List Supply → List Supply → Ending → Type 0
 EndsAside o program records head start now old new sources back end =
-    EndsAs (λ (s : Store). Some s.written) (λ (s : Store). s.faults) (λ (s : Store). s.faults) o.wait (text_of program o) head start now (record { printed = Some start.written; log = old }) (record { printed = Some now.written; log = new })
+    EndsAs (λ (s : Store). Some s.written) (λ (s : Store). s.faults) (λ (s : Store). s.faults) (code_of program o) o head start now (record { printed = Some start.written; log = old }) (record { printed = Some now.written; log = new })
     (λ (s : Supply). Some s.left) (λ (s : Supply). s.faults) sources back records end
 
 module _ (o : PlainOptions) (is : o ≡ default_options) (program : PlainProgram) (records : List Record) where
@@ -59,12 +59,12 @@ module _ (o : PlainOptions) (is : o ≡ default_options) (program : PlainProgram
 
   module _ (head : List ℕ) (start now : Store) (old new : Option Store) (sources back : List Supply) where
     -- a session that came to a verdict is the one run, and its whole text was written
-    pub aside_one : (end : Ending) → IsSome (text_of program o records) → EndsAside o program records head start now old new sources back end → IsOneRun program records (ended_of end)
-    aside_one (Ending.Verdict v) s e = (e.0, one v s e.0)
-    aside_one (Ending.Read j) s e = tt
-    aside_one Ending.Write s e = tt
-    aside_one Ending.LogWrite s e = tt
-    aside_one Ending.Memory s e = tt
+    pub aside_one : (end : Ending) → length sources ≡ 0 → IsSome (text_of program o records) → EndsAside o program records head start now old new sources back end → IsOneRun program records (ended_of end)
+    aside_one (Ending.Verdict v) none s e = (e.0, one v s e.0)
+    aside_one (Ending.Read j) none s e = let t = e.2.there in absurd (omega (arith, t, none))
+    aside_one Ending.Write none s e = tt
+    aside_one Ending.LogWrite none s e = tt
+    aside_one Ending.Memory none s e = tt
 
     pub aside_text : (end : Ending) → IsSome (text_of program o records) → start.written ≡ [] → EndsAside o program records head start now old new sources back end → IsPrintedWhole program now.written (ended_of end)
     aside_text (Ending.Verdict v) s b e =

@@ -4,7 +4,7 @@ use Rattle.std.specs.Prelude.{◌⊎◌, ◌-◌, ◌^◌, true, IfSome, IsSome,
 use mathlib.Core.List.{IsPrefix}
 use Rattle.bp_base.specs.Counts.{Rose}
 use Rattle.bp_base.specs.Worlds.{Holdings, Sets, Keeps, IsMadeAs}
-use Rattle.bp_base.specs.Pieces.{Appends}
+use Rattle.bp_base.specs.Pieces.{Appends, AppendsFront}
 use Rattle.js_program.specs.PlainProgram.{PlainProgram}
 use Rattle.bp_log.specs.Header.{PlainHeader}
 use Rattle.bp_log.specs.Logs.{header_text, records_text, can_say, log_text}
@@ -37,6 +37,7 @@ use Rattle.bp_cli.specs.Endings.{IsCaused}
 use Rattle.bp_cli.specs.inner.Opening.{AreOpened, IsLogMade, IsLogNamed, IsLogHeld}
 use Rattle.bp_cli.specs.Outside.{Outside, ReadFailed, WriteFailed}
 use Rattle.bp_cli.specs.Runs.{Holds, HoldsBehind, KeepsLog, KeepsLogFront, TellsWhole, TellsPartly, RunEnds, IsRunOf, header_of}
+use Rattle.bp_cli.proofs.Beginnings.{as_many, appended_front, beginning}
 use Rattle.bp_cli.proofs.Injected.{Brought, brought, brought_to, breaks}
 
 -- ---- counts
@@ -152,7 +153,7 @@ module _ {K L S : Type 0} (written made_as : L → Option (List ℕ)) (log_fault
     pub made : IsLogMade written made_as log_faults before.holds asked.log first
     pub story : IsSome (text_of program header.options records)
     pub heard : EachHeard left sources back records
-    pub ends : EndsAs written log_faults print_faults header.options.wait (text_of program header.options) (header_text Second header) k m (record { printed = before.printed; log = first }) (record { printed = after.printed; log = last }) left faults sources back records end
+    pub ends : EndsAs written log_faults print_faults (code_of program header.options) header.options (header_text Second header) k m (record { printed = before.printed; log = first }) (record { printed = after.printed; log = last }) left faults sources back records end
     pub behind : PrintsBehind written (text_of program header.options) (header_text Second header) records before.printed after.printed first last
     pub held : IsLogHeld written before.holds asked.log last after.holds
 
@@ -177,23 +178,29 @@ module _ {K L S : Type 0} (written made_as : L → Option (List ℕ)) (log_fault
       keeps = log_partly written made_as log_faults (header_of asked bytes) program records before after asked.log first last s.made w.logs s.behind s.held;
     }
 
+    whole_front : (end : Ending) → Served (header_of asked bytes) asked bytes program records end sources back k m first last before after →
+        Wholly written (text_of program asked.options) (header_text Second (header_of asked bytes)) records (record { printed = before.printed; log = first }) (record { printed = after.printed; log = last }) →
+        IsSomeAnd (text_of program asked.options records) (λ t. AppendsFront before.printed t after.printed)
+    whole_front end s w = appended_front (text_of program asked.options records) before.printed after.printed w.prints
+
     run_of : (end : Ending) (c : Conclusion) (Q : Type 0) (s : Served (header_of asked bytes) asked bytes program records end sources back k m first last before after) (b : Brought left faults before.holds asked.injectors records Q) →
-        RunEnds asked bytes program records before after b.inputs c → IsRunOf asked bytes records before after c
-    run_of end c Q s b e = record {
+        IsSomeAnd (text_of program asked.options records) (λ t. AppendsFront before.printed t after.printed) → RunEnds asked bytes program records before after b.inputs c → IsRunOf asked bytes records before after c
+    run_of end c Q s b p e = record {
       program = program;
       is_program = s.is_program;
       inputs = b.inputs;
       under = b.under;
       merge = b.merge;
       alone = λ n. begins_run program asked.options records (none end s n) s.story;
+      begins = beginning asked program records b.inputs before after (as_many before.holds asked.injectors b.inputs b.under ∙ sym s.counted) b.merge p;
       ends = e;
     }
 
     -- the run that came of it
     ran_under : (end : Ending) → Served (header_of asked bytes) asked bytes program records end sources back k m first last before after → IsRunOf asked bytes records before after (ended_of end)
     ran_under (Ending.Verdict v) s =
-        let b = brought_to left faults before.holds v asked.options.wait asked.injectors sources back records s.opened s.heard s.ends.2 in
-        run_of (Ending.Verdict v) (ended_of (Ending.Verdict v)) ((asked.options.wait ≡ true) × IsQuiet v) s b (record {
+        let b = brought_to left faults before.holds v asked.options.wait asked.injectors sources back records s.opened s.heard (λ waits quiet. (s.ends.2 waits quiet).0) in
+        run_of (Ending.Verdict v) (ended_of (Ending.Verdict v)) ((asked.options.wait ≡ true) × IsQuiet v) s b (whole_front (Ending.Verdict v) s s.ends.1) (record {
           verdict = s.ends.0;
           told = wholly (Ending.Verdict v) s s.ends.1;
           one_run = λ n. is_run program asked.options records v (none (Ending.Verdict v) s n) s.story s.ends.0;
@@ -202,10 +209,10 @@ module _ {K L S : Type 0} (written made_as : L → Option (List ℕ)) (log_fault
         })
     ran_under (Ending.Read j) s =
         let b = brought left faults before.holds asked.injectors sources back records s.opened s.heard in
-        run_of (Ending.Read j) (ended_of (Ending.Read j)) ⊥ s b (s.ends.0, wholly (Ending.Read j) s s.ends.1, breaks left faults before.holds asked.injectors sources back records j b.inputs s.opened b.under s.ends.2)
-    ran_under Ending.Write s = run_of Ending.Write (ended_of Ending.Write) ⊥ s (brought left faults before.holds asked.injectors sources back records s.opened s.heard) (partly Ending.Write s s.ends.0)
-    ran_under Ending.LogWrite s = run_of Ending.LogWrite (ended_of Ending.LogWrite) ⊥ s (brought left faults before.holds asked.injectors sources back records s.opened s.heard) (partly Ending.LogWrite s s.ends.0)
-    ran_under Ending.Memory s = run_of Ending.Memory (ended_of Ending.Memory) ⊥ s (brought left faults before.holds asked.injectors sources back records s.opened s.heard) (partly Ending.Memory s s.ends)
+        run_of (Ending.Read j) (ended_of (Ending.Read j)) ⊥ s b (whole_front (Ending.Read j) s s.ends.1) (s.ends.0, wholly (Ending.Read j) s s.ends.1, breaks left faults before.holds asked.injectors sources back records j b.inputs s.opened b.under s.ends.2, s.ends.3)
+    ran_under Ending.Write s = run_of Ending.Write (ended_of Ending.Write) ⊥ s (brought left faults before.holds asked.injectors sources back records s.opened s.heard) s.ends.0.prints (partly Ending.Write s s.ends.0)
+    ran_under Ending.LogWrite s = run_of Ending.LogWrite (ended_of Ending.LogWrite) ⊥ s (brought left faults before.holds asked.injectors sources back records s.opened s.heard) s.ends.0.prints (partly Ending.LogWrite s s.ends.0)
+    ran_under Ending.Memory s = run_of Ending.Memory (ended_of Ending.Memory) ⊥ s (brought left faults before.holds asked.injectors sources back records s.opened s.heard) s.ends.prints (partly Ending.Memory s s.ends)
 
     pub ran : (header : PlainHeader) (end : Ending) (c : Conclusion) → header ≡ header_of asked bytes → c ≡ ended_of end → Served header asked bytes program records end sources back k m first last before after → IsRunOf asked bytes records before after c
     ran header end c e n s =
@@ -239,7 +246,7 @@ module _ {S : Type 0} (left : S → Option (List ℕ)) (faults : S → ℕ) wher
 module _ {K L S : Type 0} (written : L → Option (List ℕ)) (log_faults : L → ℕ) (print_faults : K → ℕ) (left : S → Option (List ℕ)) (faults : S → ℕ) where
   -- a failure of a run has its cause
   pub run_caused : (program : PlainProgram) (header : PlainHeader) (records : List Record) (sources back : List S) (k m : K) (printed printed_then : Option (List ℕ)) (first last : Option L) (before after : Outside) (end : Ending) →
-      EndsAs written log_faults print_faults header.options.wait (text_of program header.options) (header_text Second header) k m (record { printed = printed; log = first }) (record { printed = printed_then; log = last }) left faults sources back records end →
+      EndsAs written log_faults print_faults (code_of program header.options) header.options (header_text Second header) k m (record { printed = printed; log = first }) (record { printed = printed_then; log = last }) left faults sources back records end →
       ((j : ℕ) → BrokeAt left faults sources back records j → ReadFailed before after) → (Rose (print_faults k) (print_faults m) → WriteFailed before after) → (LogFails log_faults first last → WriteFailed before after) →
       IsCaused before after (ended_of end)
   run_caused program header records sources back k m printed printed_then first last before after (Ending.Verdict v) e r w l = tt

@@ -1,5 +1,5 @@
 -- What a command asks of the world.
-use Rattle.std.specs.Prelude.{◌≡◌, ℕ, List, [], ◌∷◌, ◌++◌, take, Option, Some, None, IfSome, option_to_list}
+use Rattle.std.specs.Prelude.{◌≡◌, ℕ, ◌<◌, List, [], ◌∷◌, ◌++◌, length, take, Option, Some, None, IfSome, option_to_list}
 use mathlib.Core.List.{IsPrefix}
 use Rattle.bp_args.specs.declared.command.Command.{Command}
 use Rattle.bp_args.specs.declared.command.Command.TheVariants.{Run, Replay, Accept, Large, Migrate}
@@ -17,6 +17,15 @@ names_of (Migrate log) = log ∷ []
 -- the world was asked for these names, in order
 abbrev pub WasAsked : Option (List (List ℕ)) → List (List ℕ) → Option (List (List ℕ)) → Type 0
 WasAsked before names after = IfSome before (λ asked. after ≡ Some (asked ++ names))
+
+-- the world was asked for the first of these names, and not for all
+abbrev pub WasAskedSome : Option (List (List ℕ)) → List (List ℕ) → Option (List (List ℕ)) → Type 0
+WasAskedSome before names after = (n : ℕ) × (n < length names) × WasAsked before (take n names) after
+
+-- the world was asked for this name, or for none
+abbrev pub WasAskedAtMost : Option (List (List ℕ)) → List ℕ → Option (List (List ℕ)) → Type 0
+WasAskedAtMost before name after =
+    (asked : List (List ℕ)) × IsPrefix asked (name ∷ []) × WasAsked before asked after
 
 -- this many of its names, from their front, a command asks for that ends so: the first where that is
 -- refused, the first and maybe more where reading failed, some where memory ran out, and else

@@ -1,17 +1,17 @@
 -- Why a command ends as it does, and what came of it outside.
-use Rattle.std.specs.Prelude.{◌≡◌, ◌⊎◌, ℕ, List, [], Option, Some, None}
+use Rattle.std.specs.Prelude.{◌≡◌, ◌⊎◌, ℕ, List, [], Option, Some, None, IfSome}
 use Rattle.bp_log.specs.declared.record.Record.{Record}
 use Rattle.bp_args.specs.declared.command.Command.{Command}
 use Rattle.bp_args.specs.declared.command.Command.TheVariants.{Run, Replay, Accept, Large, Migrate}
 use Rattle.bp_cli.specs.declared.conclusion.Conclusion.{Conclusion}
-use Rattle.bp_cli.specs.declared.conclusion.Conclusion.TheVariants.{NoCommand, Refused, NotRead, NotWritten, NoMemory}
+use Rattle.bp_cli.specs.declared.conclusion.Conclusion.TheVariants.{NoCommand, Refused, Accepted, Ran, NotRead, NotWritten, NoMemory, BadLog, Migrated}
 use Rattle.bp_cli.specs.Outside.{Outside, ReadFailed, WriteFailed, IsAsBefore, IsUnder}
-use Rattle.bp_cli.specs.Texts.{SaysAccepted}
+use Rattle.bp_cli.specs.Texts.{IsAcceptedUnder, SaysAccepted}
 use Rattle.bp_cli.specs.Runs.{IsRunOf}
 use Rattle.bp_cli.specs.Refusing.{IsRefusedUnder}
 use Rattle.bp_cli.specs.Large.{Measures}
 use Rattle.bp_cli.specs.Conclusions.{IsStatusOf}
-use Rattle.bp_cli.specs.Asking.{AsksIn}
+use Rattle.bp_cli.specs.Asking.{names_of, WasAskedSome, WasAskedAtMost, AsksIn}
 use Rattle.bp_cli.specs.Replaying.{ReplaysTo}
 use Rattle.bp_cli.specs.Migrating.{MigratesTo}
 
@@ -25,11 +25,20 @@ IsCaused before after _ = Unit {0}
 abbrev pub DoesNothing : List Record → Outside → Outside → Type 0
 DoesNothing records before after = IsAsBefore before after × (records ≡ [])
 
--- a command may end so before it has done anything: reading failed, or memory ran out; the
--- large program is not read
-abbrev pub IsEarly : Command → Conclusion → Type 0
-IsEarly (Large n) conclusion = conclusion ≡ NoMemory
-IsEarly _ conclusion = (conclusion ≡ NotRead) ⊎ (conclusion ≡ NoMemory)
+-- reading failed, or memory ran out
+abbrev pub IsUnread : Conclusion → Type 0
+IsUnread conclusion = (conclusion ≡ NotRead) ⊎ (conclusion ≡ NoMemory)
+
+-- A command may end so before it has done anything. The large program is not read. A run asks for no
+-- other name before its program is accepted, and for its log last, so it has not asked for that.
+abbrev pub IsEarly : Command → Outside → Outside → Conclusion → Type 0
+IsEarly (Large n) before after conclusion = conclusion ≡ NoMemory
+IsEarly (Run asked) before after conclusion =
+    IsUnread conclusion
+    × (WasAskedAtMost before.asked asked.program after.asked
+    ⊎ IsAcceptedUnder before.holds asked.program)
+    × IfSome asked.log (λ name. WasAskedSome before.asked (names_of (Run asked)) after.asked)
+IsEarly _ before after conclusion = IsUnread conclusion
 
 -- what a command has done that ends so
 abbrev pub Does : Command → List Record → Outside → Outside → Conclusion → Type 0
@@ -60,13 +69,35 @@ EndsIn None records before after conclusion =
     ((conclusion ≡ NoCommand) ⊎ (conclusion ≡ NoMemory)) × DoesNothing records before after
 EndsIn (Some command) records before after conclusion =
     IsCaused before after conclusion
-    × ((IsEarly command conclusion × DoesNothing records before after)
+    × ((IsEarly command before after conclusion × DoesNothing records before after)
     ⊎ Does command records before after conclusion)
+
+-- the conclusions in which a command can end: reading fails where there is something to read, and
+-- writing and memory anywhere
+abbrev pub CanEnd : Option Command → Conclusion → Type 0
+CanEnd command NoMemory = Unit {0}
+CanEnd None NoCommand = Unit {0}
+CanEnd (Some command) NotWritten = Unit {0}
+CanEnd (Some (Run asked)) NotRead = Unit {0}
+CanEnd (Some (Run asked)) (Refused refusal) = Unit {0}
+CanEnd (Some (Run asked)) (Ran verdict) = Unit {0}
+CanEnd (Some (Accept program)) NotRead = Unit {0}
+CanEnd (Some (Accept program)) (Refused refusal) = Unit {0}
+CanEnd (Some (Accept program)) Accepted = Unit {0}
+CanEnd (Some (Large n)) (Ran verdict) = Unit {0}
+CanEnd (Some (Replay log)) NotRead = Unit {0}
+CanEnd (Some (Replay log)) (Ran verdict) = Unit {0}
+CanEnd (Some (Replay log)) (BadLog fault) = Unit {0}
+CanEnd (Some (Migrate log)) NotRead = Unit {0}
+CanEnd (Some (Migrate log)) Migrated = Unit {0}
+CanEnd (Some (Migrate log)) (BadLog fault) = Unit {0}
+CanEnd _ _ = ⊥
 
 -- status and note are those of a conclusion in which the command ends, and for which it asks
 pub record Ends (command : Option Command) (before after : Outside) (exit : ℕ) (note : List ℕ)
     (records : List Record) : Type 0 where
   pub conclusion : Conclusion
+  pub can : CanEnd command conclusion
   pub status : IsStatusOf exit note conclusion
   pub asks : AsksIn command before.asked after.asked conclusion
   pub ends : EndsIn command records before after conclusion

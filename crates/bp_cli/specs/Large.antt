@@ -10,7 +10,7 @@ use Rattle.bp_code.specs.Code.{records_alone, text_alone}
 use Rattle.bp_script.specs.Programs.{IsProgram}
 use Rattle.bp_large.specs.Large.{large_program}
 use Rattle.bp_cli.specs.declared.conclusion.Conclusion.{Conclusion}
-use Rattle.bp_cli.specs.declared.conclusion.Conclusion.TheVariants.{Ran}
+use Rattle.bp_cli.specs.declared.conclusion.Conclusion.TheVariants.{Ran, NotWritten, NoMemory}
 use Rattle.bp_cli.specs.Outside.{Outside}
 use Rattle.bp_cli.specs.Texts.{LineEnds}
 
@@ -29,11 +29,13 @@ large_line n records text =
 abbrev pub line_of : ℕ → PlainProgram → List ℕ → List ℕ
 line_of n program text = large_line n (records_alone program default_options) text
 
--- a run that came to a verdict is the one run
+-- a run that came to a verdict is the one run; else writing failed or memory ran out
 abbrev pub IsOneRun : PlainProgram → List Record → Conclusion → Type 0
 IsOneRun program records (Ran v) =
     (verdict_of records ≡ Some v) × (records ≡ records_alone program default_options)
-IsOneRun program records _ = Unit {0}
+IsOneRun program records NotWritten = Unit {0}
+IsOneRun program records NoMemory = Unit {0}
+IsOneRun program records _ = ⊥
 
 -- How measuring the program of this many b-threads ends, which is accepted: these are the records of
 -- its run, or the first of them, and the line of the one run was printed as that ends.

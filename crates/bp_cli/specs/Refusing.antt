@@ -5,7 +5,8 @@ use Rattle.bp_script.specs.declared.refusal.Refusal.{Refusal}
 use Rattle.bp_script.specs.Programs.{IsRefused}
 use Rattle.bp_args.specs.declared.command.Command.{Command}
 use Rattle.bp_args.specs.declared.command.Command.TheVariants.{Run, Accept}
-use Rattle.bp_cli.specs.Outside.{IsUnder}
+use Rattle.bp_cli.specs.Outside.{Outside, IsUnder}
+use Rattle.bp_cli.specs.Asking.{WasAskedAtMost}
 
 -- the program of that name is refused so
 abbrev pub IsRefusedUnder : Option Holdings → List ℕ → Refusal → Type 0
@@ -18,11 +19,12 @@ program_of (Run asked) = Some asked.program
 program_of (Accept program) = Some program
 program_of _ = None
 
--- where the world tells that the program is refused, the status is 2, unless reading failed or
--- memory ran out
-abbrev pub Refuses : Option Command → Option Holdings → ℕ → Type 0
-Refuses command holds status =
-    IfSome holds (λ held. IfSome (option_and_then program_of command)
+-- where the world tells that the program is refused, it was asked for no other name, and the status
+-- is 2, unless reading failed or memory ran out
+abbrev pub Refuses : Option Command → Outside → Outside → ℕ → Type 0
+Refuses command before after status =
+    IfSome before.holds (λ held. IfSome (option_and_then program_of command)
     (λ name. IfSome (held name) (λ bytes.
     (refusal : Refusal) → IsRefused bytes refusal →
-    (status ≡ 2) ⊎ ((status ≡ 8) ⊎ (status ≡ 10)))))
+    WasAskedAtMost before.asked name after.asked
+    × ((status ≡ 2) ⊎ ((status ≡ 8) ⊎ (status ≡ 10))))))

@@ -2,6 +2,7 @@
 -- log tell.
 use Rattle.std.specs.Prelude.{◌≡◌, ◌⊎◌, ℕ, true, false, List, [], ◌++◌, Option, Some, None, IfSome, IsSomeAnd}
 use mathlib.Core.List.{IsPrefix}
+use Rattle.bp_base.specs.Counts.{Rose}
 use Rattle.bp_base.specs.Worlds.{Holdings, Sets}
 use Rattle.bp_base.specs.Pieces.{Appends, AppendsFront}
 use Rattle.js_program.specs.PlainProgram.{PlainProgram}
@@ -9,14 +10,15 @@ use Rattle.bp_log.specs.Header.{PlainHeader}
 use Rattle.bp_log.specs.Logs.{can_say, log_text}
 use Rattle.bp_log.specs.declared.version.Version.{Version}
 use Rattle.bp_log.specs.declared.version.Version.TheVariants.{Second}
-use Rattle.bp_log.specs.Records.{verdict_of, is_complete}
+use Rattle.bp_log.specs.Records.{Complete, verdict_of, is_complete}
 use Rattle.bp_log.specs.declared.record.Record.{Record}
 use Rattle.bp_log.specs.declared.verdict.Verdict.{Verdict}
-use Rattle.bp_code.specs.Code.{text_of, records_alone}
+use Rattle.bp_code.specs.Code.{code_of, text_of, records_alone}
 use Rattle.bp_script.specs.Programs.{IsProgram}
 use Rattle.bp_hear.specs.Merges.{Merge}
 use Rattle.bp_log.specs.Verdicts.{IsQuiet}
 use Rattle.bp_args.specs.declared.command.Run.{Run}
+use Rattle.bp_session.specs.Reports.{HasNoVerdict}
 use Rattle.bp_replay.specs.Laws.{Retells}
 use Rattle.bp_cli.specs.declared.conclusion.Conclusion.{Conclusion}
 use Rattle.bp_cli.specs.declared.conclusion.Conclusion.TheVariants.{Ran, NotRead, NotWritten, NoMemory}
@@ -53,13 +55,13 @@ pub record HoldsBehind (name : List ℕ) (header : PlainHeader) (program : Plain
   pub printed : IsSomeAnd (text_of program header.options first)
       (λ text. AppendsFront before.printed text after.printed)
 
--- the world holds what it held, and nothing was printed; or it holds a front of the log, in which
--- the records of all that was printed stand
+-- writing in the world failed, it holds what it held, and nothing was printed; or it holds a front of
+-- the log, in which the records of all that was printed stand
 abbrev pub KeepsLogFront : Option (List ℕ) → PlainHeader → PlainProgram → List Record →
     Outside → Outside → Type 0
 KeepsLogFront None header program records before after = after.holds ≡ before.holds
 KeepsLogFront (Some name) header program records before after =
-    IsAsBefore before after
+    (Rose before.write_faults after.write_faults × IsAsBefore before after)
     ⊎ (HoldsFront before.holds name (log_text Second header records) after.holds
     × ((after.printed ≡ before.printed) ⊎ HoldsBehind name header program records before after))
 
@@ -77,8 +79,9 @@ module _ (asked : Run) (bytes : List ℕ) (program : PlainProgram) (records : Li
     pub keeps : KeepsLog asked.log before.holds
         (log_text Second (header_of asked bytes) records) after.holds
 
-  -- a front of the text of the records was printed, and a front of their log is held in which the
-  -- records of that text stand, or nothing was printed and the world holds what it held
+  -- A front of the text of the records was printed, and a front of their log is held in which the
+  -- records of that text stand; or writing in the world failed, nothing was printed, and it holds what
+  -- it held.
   pub record TellsPartly : Type 0 where
     pub prints : IsSomeAnd (text_of program asked.options records)
         (λ text. AppendsFront before.printed text after.printed)
@@ -97,19 +100,30 @@ module _ (asked : Run) (bytes : List ℕ) (program : PlainProgram) (records : Li
         (λ text. (version : Version) → can_say version asked.options.wait ≡ true
         → Retells (log_text version (header_of asked bytes) records) text v)
 
-  -- how a run ends: with a verdict; without one where reading an injector failed, and all that was
-  -- recorded until then was told; or where writing failed or memory ran out
+  -- how a run ends: with a verdict; before it came to one, where reading an injector failed, and all
+  -- that was recorded until then was told; or where writing failed or memory ran out
   abbrev pub RunEnds : List (List ℕ) → Conclusion → Type 0
   RunEnds inputs (Ran v) = RunsTo inputs v
   RunEnds inputs NotRead =
       (is_complete records ≡ false) × TellsWhole × BreaksIn before.holds records inputs
+      × HasNoVerdict (code_of program asked.options) asked.options records
   RunEnds inputs NotWritten = TellsPartly
   RunEnds inputs NoMemory = TellsPartly
   RunEnds inputs _ = ⊥
 
+-- More records make these a complete story, which still merges the inputs, and what was printed is a
+-- front of its text.
+pub record IsBeginning (asked : Run) (program : PlainProgram) (records : List Record)
+    (inputs : List (List ℕ)) (before after : Outside) : Type 0 where
+  pub later : List Record
+  pub complete : Complete (records ++ later)
+  pub merge : Merge (records ++ later) inputs
+  pub prints : IsSomeAnd (text_of program asked.options (records ++ later))
+      (λ text. AppendsFront before.printed text after.printed)
+
 -- The bytes are a program, of which the records are a story. What they say of the injectors is a
 -- merge of what the world holds under their names, and without injectors they are the first of the
--- one run.
+-- one run. They, and what was printed, are the beginning of a complete story.
 pub record IsRunOf (asked : Run) (bytes : List ℕ) (records : List Record) (before after : Outside)
     (conclusion : Conclusion) : Type 0 where
   pub program : PlainProgram
@@ -118,4 +132,5 @@ pub record IsRunOf (asked : Run) (bytes : List ℕ) (records : List Record) (bef
   pub under : AreUnder before.holds asked.injectors inputs
   pub merge : Merge records inputs
   pub alone : asked.injectors ≡ [] → IsPrefix records (records_alone program asked.options)
+  pub begins : IsBeginning asked program records inputs before after
   pub ends : RunEnds asked bytes program records before after inputs conclusion

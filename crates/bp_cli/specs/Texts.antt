@@ -1,15 +1,20 @@
 -- Accepted programs, and what is printed of them.
-use Rattle.std.specs.Prelude.{◌≡◌, ◌⊎◌, ℕ, List, codes}
+use Rattle.std.specs.Prelude.{◌≡◌, ◌⊎◌, ℕ, List, Option, codes}
 use Rattle.bp_base.specs.Pieces.{Appends, AppendsFront}
+use Rattle.bp_base.specs.Worlds.{Holdings}
 use Rattle.js_program.specs.PlainProgram.{PlainProgram}
 use Rattle.bp_script.specs.Programs.{IsProgram}
 use Rattle.bp_cli.specs.declared.conclusion.Conclusion.{Conclusion}
 use Rattle.bp_cli.specs.declared.conclusion.Conclusion.TheVariants.{Accepted, Ran, NotWritten, NoMemory}
-use Rattle.bp_cli.specs.Outside.{Outside, WriteFailed}
+use Rattle.bp_cli.specs.Outside.{Outside, WriteFailed, IsUnder}
 
 -- the bytes are an accepted program
 abbrev pub IsAccepted : List ℕ → Type 0
 IsAccepted bytes = (program : PlainProgram) × IsProgram bytes program
+
+-- what the world holds under the name is one, where it tells it
+abbrev pub IsAcceptedUnder : Option Holdings → List ℕ → Type 0
+IsAcceptedUnder holds name = (bytes : List ℕ) × IsUnder holds name bytes × IsAccepted bytes
 
 abbrev pub accepted_line : List ℕ
 accepted_line = codes "accepted\n"

@@ -19,9 +19,10 @@ use bp_base::{Sink, World};
 use std::alloc::Global;
 use std::sync::Wait;
 use std::thread::Threads;
+use std::time::Clock;
 
 /// Carries out the command, and says how it ended.
-fn carry_out<R: Threads + Wait + Sync, W: World, K: Sink>(
+fn carry_out<R: Threads + Wait + Sync + Clock, W: World, K: Sink>(
     rt: &R,
     alloc: Global,
     command: Command,
@@ -48,7 +49,7 @@ fn carry_out<R: Threads + Wait + Sync, W: World, K: Sink>(
 }
 
 /// Carries out the command that the words are, and says how it ended.
-fn conclude<R: Threads + Wait + Sync, W: World, K: Sink>(
+fn conclude<R: Threads + Wait + Sync + Clock, W: World, K: Sink>(
     rt: &R,
     alloc: Global,
     words: &[String],
@@ -74,7 +75,7 @@ fn conclude<R: Threads + Wait + Sync, W: World, K: Sink>(
 ///
 /// The words are those after the program's name: `run [OPTIONS] PROGRAM [INJECTOR]...`, `replay
 /// LOG`, `accept PROGRAM`, `large N` or `migrate LOG`.
-pub fn command<R: Threads + Wait + Sync, W: World, K: Sink>(
+pub fn command<R: Threads + Wait + Sync + Clock, W: World, K: Sink>(
     rt: &R,
     alloc: Global,
     words: &[String],
@@ -99,9 +100,11 @@ pub fn command<R: Threads + Wait + Sync, W: World, K: Sink>(
         K.written K.faults in Ends (command_of (map string_bytes words.now))
         (seen world.old out.old) (seen world.new out.new) result.code result.note result.records }
 
-    // A refused program comes to no other end, except for a fault of reading or out of memory.
-    ensures refuses { Refuses (command_of (map string_bytes words.now)) (W.holds world.old)
-        result.code }
+    // A refused program comes to no other end, except for a fault of reading or out of memory, and
+    // no other name is asked for.
+    ensures refuses { let seen = outside W.holds W.asked W.read_faults W.write_faults
+        K.written K.faults in Refuses (command_of (map string_bytes words.now))
+        (seen world.old out.old) (seen world.new out.new) result.code }
 
     ensures counts { let seen = outside W.holds W.asked W.read_faults W.write_faults
         K.written K.faults in NeverFalls (seen world.old out.old) (seen world.new out.new) }

@@ -20,6 +20,7 @@ use js_program::Program;
 use std::alloc::Global;
 use std::sync::Wait;
 use std::thread::Threads;
+use std::time::Clock;
 
 /// Room for the text of the largest run, in bytes.
 const ROOM: u64 = 400_000;
@@ -72,7 +73,7 @@ fn line_of(alloc: Global, count: u32, records: &[Record], text: &[u8]) -> Result
 
 /// Runs the program under the default options, and keeps its text: what its run came to, and the
 /// text. If there is no room for the text, the run ends as if its output had failed.
-fn run_aside<R: Threads + Wait + Sync>(
+fn run_aside<R: Threads + Wait + Sync + Clock>(
     rt: &R,
     alloc: Global,
     program: Program,
@@ -106,7 +107,7 @@ fn run_aside<R: Threads + Wait + Sync>(
 }
 
 /// Runs the program of this many b-threads, and prints one line on what its run comes to.
-pub(crate) fn measure_large<R: Threads + Wait + Sync, K: Sink>(
+pub(crate) fn measure_large<R: Threads + Wait + Sync + Clock, K: Sink>(
     rt: &R,
     alloc: Global,
     count: u32,

@@ -17,6 +17,7 @@ use js_data::Text;
 use std::alloc::Global;
 use std::sync::Wait;
 use std::thread::Threads;
+use std::time::Clock;
 
 /// What is printed for an accepted program.
 const ACCEPTED: &[u8] = b"accepted\n";
@@ -24,7 +25,7 @@ const ACCEPTED: &[u8] = b"accepted\n";
 /// Runs the program of that name as the words ask, with its injectors, prints its run, and keeps
 /// its log if they ask for one. The program is opened first, then the injectors, in order, and
 /// then the log.
-pub(crate) fn run_program<R: Threads + Wait + Sync, W: World, K: Sink>(
+pub(crate) fn run_program<R: Threads + Wait + Sync + Clock, W: World, K: Sink>(
     rt: &R,
     alloc: Global,
     asked: &Run,

@@ -20,9 +20,10 @@ use bp_session::{Report, Session};
 use std::alloc::Global;
 use std::sync::Wait;
 use std::thread::Threads;
+use std::time::Clock;
 
 /// Runs the program with these inputs and this log, closes them, and says how the run ended.
-pub(crate) fn run_opened<R: Threads + Wait + Sync, W: World, K: Sink>(
+pub(crate) fn run_opened<R: Threads + Wait + Sync + Clock, W: World, K: Sink>(
     rt: &R,
     alloc: Global,
     asked: &Run,

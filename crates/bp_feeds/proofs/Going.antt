@@ -1,6 +1,6 @@
 -- How a feed goes on.
-use Rattle.std.proofs.Common.{◌≡◌, ◌⊎◌, ⊎_elim, ℕ, ◌≤◌, true, List, [], ◌∷◌, ◌++◌, Option, Some, None, option_to_list, refl, sym, ap, ◌∙◌, subst, append_assoc, append-nil, arith}
-use Rattle.std.proofs.lemmas.Bool.{or_cases}
+use Rattle.std.proofs.Common.{◌≡◌, ◌⊎◌, ⊎_elim, ℕ, ◌≤◌, true, false, List, [], ◌∷◌, ◌++◌, Option, Some, None, option_to_list, refl, sym, ap, ◌∙◌, subst, append_assoc, append-nil, arith}
+use Rattle.std.proofs.lemmas.Bool.{or_cases, or_parts}
 use Rattle.std.proofs.lemmas.List.Folds.{list_any-append}
 use Rattle.bp_base.specs.Counts.{Rose}
 use Rattle.bp_lanes.specs.declared.ends.Mouth.{Mouth}
@@ -45,6 +45,9 @@ reads_both a b c xs ys r s = record {
 faults_of : (xs ys : List Item) → has_fault (xs ++ ys) ≡ true → (has_fault xs ≡ true) ⊎ (has_fault ys ≡ true)
 faults_of xs ys h = or_cases (has_fault xs) (has_fault ys) (sym (list_any-append is_fault xs ys) ∙ h)
 
+pub sound_parts : (xs ys : List Item) → has_fault (xs ++ ys) ≡ false → (has_fault xs ≡ false) × (has_fault ys ≡ false)
+sound_parts xs ys h = or_parts (has_fault xs) (has_fault ys) (sym (list_any-append is_fault xs ys) ∙ h)
+
 same_lane : (a : Mouth) → IsSameMouth a a
 same_lane a = ((refl, refl, refl, refl), refl)
 
@@ -55,16 +58,17 @@ module _ {S : Type 0} (left : S → Option (List ℕ)) (faults : S → ℕ) wher
   -- a step that gave these items more
   pub goes_more : (old new : Feed S) (more : List Item) → IsSameMouth old.mouth new.mouth → given new ≡ given old ++ more
       → ReadsOn (reading_of left old.lines) more (reading_of left new.lines)
-      → (has_fault more ≡ true → Rose (faults old.lines.source) (faults new.lines.source)) → faults old.lines.source ≤ faults new.lines.source
+      → (has_fault more ≡ true → Rose (faults old.lines.source) (faults new.lines.source))
+      → (has_fault more ≡ false → faults new.lines.source ≡ faults old.lines.source) → faults old.lines.source ≤ faults new.lines.source
       → GoesOn left faults old new
-  goes_more old new more lane all reads cause counts = record { lane = lane; more = more; all = all; reads = reads; cause = cause; counts = counts }
+  goes_more old new more lane all reads cause told counts = record { lane = lane; more = more; all = all; reads = reads; cause = cause; told = told; counts = counts }
 
   -- a step that read nothing
   pub goes_same : (old new : Feed S) → IsSameMouth old.mouth new.mouth → given new ≡ given old → new.lines ≡ old.lines → GoesOn left faults old new
   goes_same old new lane all lines =
       goes_more old new [] lane (all ∙ sym (append-nil (given old)))
       (subst (λ l. ReadsOn (reading_of left old.lines) [] (reading_of left l)) (sym lines) (reads_nothing (reading_of left old.lines)))
-      (λ h. cc) (omega (arith, ap (λ l. faults l.source) lines))
+      (λ h. cc) (λ h. ap (λ l. faults l.source) lines) (omega (arith, ap (λ l. faults l.source) lines))
 
   pub gave_item : (old new : Feed S) (item : Item) → old.kept ≡ None → given new ≡ offered old.mouth ++ item ∷ [] → given new ≡ given old ++ item ∷ []
   gave_item old new item none all =
@@ -75,17 +79,21 @@ module _ {S : Type 0} (left : S → Option (List ℕ)) (faults : S → ℕ) wher
   pub goes_item : (old new : Feed S) (mid : LineReader S) (item : Item) (o : Option Item) → IsSameMouth old.mouth new.mouth → old.kept ≡ None
       → given new ≡ offered old.mouth ++ item ∷ [] → new.lines ≡ mid → o ≡ Some item
       → ReadsOn (reading_of left old.lines) (option_to_list o) (reading_of left mid)
-      → (has_fault (option_to_list o) ≡ true → Rose (faults old.lines.source) (faults mid.source)) → faults old.lines.source ≤ faults mid.source
+      → (has_fault (option_to_list o) ≡ true → Rose (faults old.lines.source) (faults mid.source))
+      → (has_fault (option_to_list o) ≡ false → faults mid.source ≡ faults old.lines.source) → faults old.lines.source ≤ faults mid.source
       → GoesOn left faults old new
-  goes_item old new mid item o lane none all lines is reads cause counts =
+  goes_item old new mid item o lane none all lines is reads cause told counts =
       let gave : given old ≡ offered old.mouth = ap (λ k. offered old.mouth ++ option_to_list k) none ∙ append-nil (offered old.mouth) in
       let read : ReadsOn (reading_of left old.lines) (item ∷ []) (reading_of left mid) =
       subst (λ x. ReadsOn (reading_of left old.lines) (option_to_list x) (reading_of left mid)) is reads in
       let caused : has_fault (item ∷ []) ≡ true → Rose (faults old.lines.source) (faults mid.source) =
       subst (λ x. has_fault (option_to_list x) ≡ true → Rose (faults old.lines.source) (faults mid.source)) is cause in
+      let spared : has_fault (item ∷ []) ≡ false → faults mid.source ≡ faults old.lines.source =
+      subst (λ x. has_fault (option_to_list x) ≡ false → faults mid.source ≡ faults old.lines.source) is told in
       goes_more old new (item ∷ []) lane (all ∙ ap (λ l. l ++ item ∷ []) (sym gave))
       (subst (λ l. ReadsOn (reading_of left old.lines) (item ∷ []) (reading_of left l)) (sym lines) read)
       (subst (λ l. has_fault (item ∷ []) ≡ true → Rose (faults old.lines.source) (faults l.source)) (sym lines) caused)
+      (subst (λ l. has_fault (item ∷ []) ≡ false → faults l.source ≡ faults old.lines.source) (sym lines) spared)
       (subst (λ l. faults old.lines.source ≤ faults l.source) (sym lines) counts)
 
   -- no step
@@ -102,6 +110,7 @@ module _ {S : Type 0} (left : S → Option (List ℕ)) (faults : S → ℕ) wher
     cause = λ h. ⊎_elim
         (λ (k : has_fault x.more ≡ true). rose_on (faults a.lines.source) (faults b.lines.source) (faults c.lines.source) (x.cause k) x.counts y.counts)
         (λ (k : has_fault y.more ≡ true). rose_from (faults a.lines.source) (faults b.lines.source) (faults c.lines.source) (y.cause k) x.counts) (faults_of x.more y.more h);
+    told = λ h. let p = sound_parts x.more y.more h in y.told p.1 ∙ x.told p.0;
     counts = omega (arith, x.counts, y.counts);
   }
 

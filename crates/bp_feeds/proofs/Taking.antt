@@ -1,5 +1,5 @@
 -- A step of a reading takes at most one line.
-use Rattle.std.proofs.Common.{◌≡◌, ℕ, ◌≤◌, false, List, [], ◌∷◌, ◌++◌, Option, Some, None, length, refl, sym, ap, ◌∙◌, subst, append_assoc, append-nil, arith}
+use Rattle.std.proofs.Common.{◌≡◌, ℕ, ◌≤◌, false, List, [], ◌∷◌, ◌++◌, Option, Some, None, length, inl, refl, sym, ap, ◌∙◌, subst, append_assoc, append-nil, arith}
 use Rattle.bp_base.specs.Pieces.{Gives}
 use Rattle.bp_feeds.specs.Items.{has_break, lines_of}
 use Rattle.bp_feeds.specs.Reading.{Reading, TakesLine, PassesLine, IsSameReading}
@@ -40,6 +40,7 @@ pub passes_nothing : (old new : Reading) → new.left ≡ old.left → new.held 
 passes_nothing old new l h = record {
   came = [];
   given = subst (λ (o : Option (List ℕ)). Gives old.left [] o) (sym l) (gives_nothing old.left);
+  stops = inl refl;
   takes = takes_none (old.held ++ []) new.held (h ∙ sym (append-nil old.held));
 }
 
@@ -48,5 +49,6 @@ pub passes_after : (old mid new : Reading) → IsSameReading old mid → new.lef
 passes_after old mid new s l t = record {
   came = s.came;
   given = subst (λ (o : Option (List ℕ)). Gives old.left s.came o) (sym l) s.given;
+  stops = s.stops;
   takes = subst (λ (b : List ℕ). TakesLine b new.held) s.held t;
 }

@@ -1,16 +1,17 @@
 -- What each step of a reading keeps.
-use Rattle.std.proofs.Common.{◌≡◌, ℕ, ◌+◌, ◌<◌, true, false, List, [], ◌∷◌, ◌++◌, Option, Some, None, length, option_to_list, inr, refl, sym, ap, ◌∙◌, subst, append_assoc, append-nil, length-append, unwrap_or, arith}
-use Rattle.std.specs.Prelude.{IfSome}
-use Rattle.std.proofs.lemmas.Bool.{or_parts}
+use Rattle.std.proofs.Common.{◌≡◌, ℕ, ◌+◌, ◌<◌, ◌≤◌, true, false, List, [], ◌∷◌, ◌++◌, Option, Some, None, length, option_to_list, inr, refl, sym, ap, ◌∙◌, subst, append_assoc, append-nil, length-append, unwrap_or, arith}
+use Rattle.std.specs.Prelude.{nat_lt, IfSome}
+use Rattle.std.proofs.lemmas.Bool.{or_parts, or_from}
+use Rattle.std.proofs.lemmas.Bool.Decides.{nat_tests}
 use Rattle.std.proofs.lemmas.List.Folds.{list_any-append}
 use Rattle.bp_base.specs.Pieces.{Gives}
 use Rattle.bp_base.proofs.Appending.{gives-on}
 use Rattle.bp_log.specs.declared.item.Item.{Item}
 use Rattle.bp_log.specs.declared.item.Item.TheVariants.{Bad, Failed, End}
-use Rattle.bp_feeds.specs.declared.limits.TheConstants.{MOST_LENGTH}
+use Rattle.bp_feeds.specs.declared.limits.TheConstants.{MOST_LENGTH, MOST_READ}
 use Rattle.bp_feeds.specs.declared.reached.Reached.{Reached}
 use Rattle.bp_feeds.specs.declared.reached.Reached.TheVariants.{Within, Last, Ended, Broken, Faulted}
-use Rattle.bp_feeds.specs.Items.{has_break, is_end, has_end, lines_of, whole_lines, ends, followed, item_of, items_from, items, items_before_fault}
+use Rattle.bp_feeds.specs.Items.{has_break, has_line, is_end, has_end, lines_of, whole_lines, ends, followed, item_of, items_from, items, items_before_fault}
 use Rattle.bp_feeds.specs.Reading.{Reading, IsBetweenLines, IsAll, IsBroken, HasReached, HasRead, ReadsOn, ReadsLast, IsSameReading, IsSameToEnd, IsTooLong}
 use Rattle.bp_feeds.proofs.Cuts.{unended, unended_lines, unended_both, lines_at_break, whole_at_break, lines_unbroken, whole_unbroken, first_line, followed_more, followed_last, past_is_bad}
 use Rattle.bp_feeds.proofs.Behind.{whole_behind, lines_follow, whole_follow}
@@ -227,18 +228,27 @@ same_held a b c s held number reached left = record {
   came = s.came;
   held = held ∙ s.held;
   given = subst (λ o. Gives a.left s.came o) (sym left) s.given;
+  stops = s.stops;
 }
+
+-- a line without LF that is not too long is no whole line
+pub no_line : (line block : List ℕ) → has_break line ≡ false → length line ≤ MOST_LENGTH → block ≡ [] → has_line (line ++ block) ≡ false
+no_line line block u few e =
+    or_from (has_break (line ++ block)) (nat_lt MOST_LENGTH (length (line ++ block)))
+    (ap (λ b. has_break (line ++ b)) e ∙ ap has_break (append-nil line) ∙ u)
+    (ap (λ b. nat_lt MOST_LENGTH (length (line ++ b))) e ∙ ap (λ l. nat_lt MOST_LENGTH (length l)) (append-nil line) ∙ grind (arith, nat_tests))
 
 -- a block that came after a line without LF
 pub filled : (a b c : Reading) (line block : List ℕ) → IsSameReading a b → line ++ [] ≡ b.held → c.held ≡ line ++ block → c.number ≡ b.number → c.reached ≡ b.reached
-    → Gives b.left block c.left → IsSameReading a c
-filled a b c line block s e held number reached g = record {
+    → Gives b.left block c.left → has_line b.held ≡ false → length block ≤ MOST_READ → IsSameReading a c
+filled a b c line block s e held number reached g whole short = record {
   was = s.was;
   is = reached ∙ s.is;
   number = number ∙ s.number;
   came = s.came ++ block;
   held = held ∙ ap (λ l. l ++ block) (sym (append-nil line) ∙ e ∙ s.held) ∙ append_assoc a.held s.came block;
   given = gives-on a.left b.left c.left s.came block s.given g;
+  stops = inr (record { front = s.came; block = block; all = refl; unended = ap has_line (sym s.held) ∙ whole; short = short });
 }
 
 nothing_more : (a : Option (List ℕ)) (came : List ℕ) (b : Option (List ℕ)) → Gives a came b → IfSome b (λ x. x ≡ []) → IsAll a came
@@ -248,9 +258,9 @@ nothing_more (Some x) came (Some y) g e = g ∙ ap (λ l. came ++ l) e ∙ appen
 
 -- no block came after a line without LF
 pub filled_last : (a b c : Reading) (line block : List ℕ) → IsSameReading a b → line ++ [] ≡ b.held → c.held ≡ line ++ block → c.number ≡ b.number → c.reached ≡ b.reached
-    → Gives b.left block c.left → block ≡ [] → IfSome b.left (λ x. x ≡ []) → IsSameToEnd a c
+    → Gives b.left block c.left → has_line b.held ≡ false → length block ≤ MOST_READ → block ≡ [] → IfSome b.left (λ x. x ≡ []) → IsSameToEnd a c
 unfolding filled
-filled_last a b c line block s e held number reached g none end = record {
-  same = filled a b c line block s e held number reached g;
+filled_last a b c line block s e held number reached g whole short none end = record {
+  same = filled a b c line block s e held number reached g whole short;
   all = subst (λ l. IsAll a.left l) (sym (ap (λ l. s.came ++ l) none ∙ append-nil s.came)) (nothing_more a.left s.came b.left s.given end);
 }

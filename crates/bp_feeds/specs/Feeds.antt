@@ -1,5 +1,5 @@
 -- What a feed has given, and how it goes on.
-use Rattle.std.specs.Prelude.{◌≡◌, ◌≤◌, ℕ, Bool, true, ◌&&◌, List, ◌++◌, Option, option_to_list, is_none}
+use Rattle.std.specs.Prelude.{◌≡◌, ◌≤◌, ℕ, Bool, true, false, ◌&&◌, List, ◌++◌, Option, option_to_list, is_none}
 use Rattle.bp_log.specs.declared.item.Item.{Item}
 use Rattle.bp_base.specs.Counts.{Rose}
 use Rattle.bp_lanes.specs.Lanes.{offered, IsSameMouth}
@@ -35,12 +35,13 @@ module _ {S : Type 0} where
     pub all : given f ≡ before ++ gave
     pub read : HasRead start took gave (reading_of left f.lines)
 
-  -- The feed went on: on the same lane it gave the items more that it read; a fault is among them only
-  -- where the source failed.
+  -- The feed went on: on the same lane it gave the items more that it read. A fault is among them only
+  -- where the source failed, and where none is, its count of faults stayed.
   pub record GoesOn (left : S → Option (List ℕ)) (faults : S → ℕ) (old new : Feed S) : Type 0 where
     pub lane : IsSameMouth old.mouth new.mouth
     pub more : List Item
     pub all : given new ≡ given old ++ more
     pub reads : ReadsOn (reading_of left old.lines) more (reading_of left new.lines)
     pub cause : has_fault more ≡ true → Rose (faults old.lines.source) (faults new.lines.source)
+    pub told : has_fault more ≡ false → faults new.lines.source ≡ faults old.lines.source
     pub counts : faults old.lines.source ≤ faults new.lines.source

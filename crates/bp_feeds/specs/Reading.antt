@@ -4,10 +4,10 @@ use mathlib.Core.List.{IsPrefix}
 use Rattle.bp_base.specs.Pieces.{Gives}
 use Rattle.bp_log.specs.declared.item.Item.{Item}
 use Rattle.bp_log.specs.declared.item.Item.TheVariants.{Failed, End}
-use Rattle.bp_feeds.specs.declared.limits.TheConstants.{MOST_LENGTH}
+use Rattle.bp_feeds.specs.declared.limits.TheConstants.{MOST_LENGTH, MOST_READ}
 use Rattle.bp_feeds.specs.declared.reached.Reached.{Reached}
 use Rattle.bp_feeds.specs.declared.reached.Reached.TheVariants.{Within, Last, Ended, Broken, Faulted}
-use Rattle.bp_feeds.specs.Items.{lines_of, whole_lines, items_from, items, items_before_fault, has_break, has_last, has_end, has_fault}
+use Rattle.bp_feeds.specs.Items.{lines_of, whole_lines, items_from, items, items_before_fault, has_break, has_line, has_last, has_end, has_fault}
 
 -- a reading of lines: the bytes that were taken of the source and belong to no line that was dealt
 -- with, the number of the next line, what was reached, and what the source has left, where it tells it
@@ -92,6 +92,19 @@ pub record ReadsLast (old : Reading) (more : List Item) (new : Reading) : Type 0
   pub on : (start : Option (List ℕ)) (took : List ℕ) (given : List Item)
       → IsAll start took → HasRead start took given old → HasRead start took (given ++ more) new
 
+-- Bytes came behind those that are held, this block of them last, which is no longer than one read gives.
+-- Before it no whole line was held.
+pub record EndsInBlock (held came : List ℕ) : Type 0 where
+  pub front : List ℕ
+  pub block : List ℕ
+  pub all : came ≡ front ++ block
+  pub unended : has_line (held ++ front) ≡ false
+  pub short : length block ≤ MOST_READ
+
+-- no more bytes came than a whole line needed, but for those of the block that ended it
+abbrev pub StopsAtLine : List ℕ → List ℕ → Type 0
+StopsAtLine held came = (came ≡ []) ⊎ EndsInBlock held came
+
 -- bytes came and are held, and nothing was read of them
 pub record IsSameReading (old new : Reading) : Type 0 where
   pub was : old.reached ≡ Within
@@ -100,6 +113,7 @@ pub record IsSameReading (old new : Reading) : Type 0 where
   pub came : List ℕ
   pub held : new.held ≡ old.held ++ came
   pub given : Gives old.left came new.left
+  pub stops : StopsAtLine old.held came
 
 -- the bytes that came are all that was left
 pub record IsSameToEnd (old new : Reading) : Type 0 where
@@ -112,10 +126,12 @@ pub record TakesLine (bytes left : List ℕ) : Type 0 where
   pub all : bytes ≡ passed ++ left
   pub one : length (lines_of passed) ≤ 1
 
--- of the bytes that were held, and then those that came, at most one line was dealt with
+-- Bytes came, no more than a whole line needed. Of those that were held, and then these, at most one line
+-- was dealt with.
 pub record PassesLine (old new : Reading) : Type 0 where
   pub came : List ℕ
   pub given : Gives old.left came new.left
+  pub stops : StopsAtLine old.held came
   pub takes : TakesLine (old.held ++ came) new.held
 
 -- the bytes begin with a line that is too long

@@ -2,12 +2,11 @@
 ghost use Rattle.std.specs.Prelude.{◌≡◌, ◌≤◌, [], length, drop, IfOk, OnOk, OnErr, IfSome};
 ghost use Rattle.bp_base.specs.Counts.{Rose};
 ghost use Rattle.bp_base.specs.Pieces.{Gives};
+ghost use Rattle.bp_feeds.specs.declared.limits.TheConstants.{MOST_READ};
 
+use crate::limits::MOST_READ;
 use bp_base::{Failed, Source};
 use std::marker::Model;
-
-/// How many bytes a read may give at once.
-const SIZE: usize = 4096;
 
 /// The bytes of the last read that were not yet taken. Contracts see it as the list of them.
 #[derive(Drop)]
@@ -33,7 +32,7 @@ impl Block {
         ensures { result ≡ [] }
     {
         Block {
-            bytes: [0; SIZE],
+            bytes: [0; MOST_READ],
             at: 0,
             end: 0,
         }
@@ -59,11 +58,13 @@ impl Block {
         requires { self.old ≡ [] }
         ensures given { OnOk result (Gives (S.left source.old) self.new (S.left source.new)) }
         ensures count { IfOk result (λ n. length self.new ≡ n) }
+        ensures most { length self.new ≤ MOST_READ }
         ensures end { IfOk result (λ n. n ≡ 0 → IfSome (S.left source.old) (λ bytes. bytes ≡ [])) }
 
         ensures none { OnErr result (self.new ≡ []) }
         ensures failed { OnErr result (S.left source.new ≡ S.left source.old) }
         ensures cause { OnErr result (Rose (S.faults source.old) (S.faults source.new)) }
+        ensures spares { OnOk result (S.faults source.new ≡ S.faults source.old) }
         ensures counts { S.faults source.old ≤ S.faults source.new }
     {
         self.at = 0;

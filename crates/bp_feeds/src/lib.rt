@@ -12,7 +12,7 @@ mod reached;
 use bp_base::Source;
 pub use feed::{Fed, Feed};
 pub use laws::items_follow;
-pub use limits::{MOST_LENGTH, MOST_LINES};
+pub use limits::{MOST_LENGTH, MOST_LINES, MOST_READ};
 
 /// Takes only what may move to another thread.
 fn is_send<T: Send>(_value: &T) {}

@@ -112,6 +112,8 @@ impl<S: Source> LineReader<S> {
         ensures fault { result ≡ Ok Gathered.Fault → self.new.block ≡ [] }
         ensures cause { result ≡ Ok Gathered.Fault
             → Rose (S.faults self.old.source) (S.faults self.new.source) }
+        ensures told { ¬ (result ≡ Ok Gathered.Fault)
+            → S.faults self.new.source ≡ S.faults self.old.source }
         ensures counts { S.faults self.old.source ≤ S.faults self.new.source }
         ensures asks { has_line (held self.old) ≡ true → self.new.source ≡ self.old.source }
     {
@@ -208,6 +210,9 @@ impl<S: Source> LineReader<S> {
 
         ensures cause { IfOk result (λ item. has_fault (option_to_list item) ≡ true
             → Rose (S.faults self.old.source) (S.faults self.new.source)) }
+        ensures told { IfOk result (λ item. has_fault (option_to_list item) ≡ false
+            → S.faults self.new.source ≡ S.faults self.old.source) }
+        ensures spares { OnErr result (S.faults self.new.source ≡ S.faults self.old.source) }
         ensures counts { S.faults self.old.source ≤ S.faults self.new.source }
         ensures asks { has_line (held self.old) ≡ true → self.new.source ≡ self.old.source }
     {

@@ -1,6 +1,6 @@
 -- What was heard of a source, once it came back.
-use Rattle.std.proofs.Common.{◌≡◌, ◌⊎◌, ⊎_elim, ℕ, true, List, [], ◌∷◌, ◌++◌, Option, refl, sym, ap, ◌∙◌, subst, append_assoc, append-nil}
-use Rattle.std.proofs.lemmas.Bool.{or_left, or_right, or_cases, both_ways}
+use Rattle.std.proofs.Common.{◌≡◌, ◌⊎◌, ⊎_elim, ℕ, true, false, List, [], ◌∷◌, ◌++◌, Option, refl, sym, ap, ◌∙◌, subst, append_assoc, append-nil}
+use Rattle.std.proofs.lemmas.Bool.{or_left, or_right, or_cases, or_parts, both_ways}
 use Rattle.std.proofs.lemmas.List.Folds.{list_any-append}
 use mathlib.Core.List.{IsPrefix}
 use Rattle.bp_log.specs.declared.item.Item.{Item}
@@ -104,6 +104,16 @@ sound_to_end offers took rest h begins =
     ⊎_elim (λ (p : IsPrefix offers (items (took ++ rest))). p)
     (λ (f : EndsInFault took rest offers). absurd (both_ways (has_end offers) (ap has_end f.broken ∙ unended_lines (whole_lines took) 1) h))
     begins
+
+-- where the end was heard, the last item was offered, and none was a fault
+pub sound_whole : (start left : Option (List ℕ)) (heard behind : List Item) → BeginsItems start left (heard ++ behind) → has_end heard ≡ true
+    → (has_last (heard ++ behind) ≡ true) × (has_fault (heard ++ behind) ≡ false)
+sound_whole start left heard behind b h =
+    let ended : has_end (heard ++ behind) ≡ true = end_before heard behind h in
+    let first : IsPrefix (heard ++ behind) (items (b.took ++ b.rest)) = sound_to_end (heard ++ behind) b.took b.rest ended b.begins in (
+      ends_last (heard ++ behind) ended,
+      (or_parts (has_fault (heard ++ behind)) (has_fault first.0) (sym (list_any-append is_fault (heard ++ behind) first.0) ∙ ap has_fault first.1 ∙ faultless_items (b.took ++ b.rest))).0,
+    )
 
 pub heard_whole : (j : ℕ) (records : List Record) (behind : List Item) (start left : Option (List ℕ)) → BeginsItems start left (items_by j records ++ behind)
     → has_end (items_by j records) ≡ true → IsHeardWhole start left (items_by j records)

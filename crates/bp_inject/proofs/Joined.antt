@@ -1,6 +1,7 @@
 -- What holds of an injector that was started, and once it was joined.
-use Rattle.std.proofs.Common.{◌≡◌, ◌⊎◌, ⊎_elim, ◌↔◌, ℕ, true, List, [], ◌++◌, Option, None, option_to_list, length, append-nil, sym, ap, ◌∙◌, subst, arith}
-use Rattle.std.proofs.lemmas.Bool.{or_cases, or_left}
+use Rattle.std.proofs.Common.{◌≡◌, ◌⊎◌, ⊎_elim, ◌↔◌, ℕ, true, false, List, [], ◌++◌, Option, None, Some, option_to_list, length, append-nil, refl, sym, ap, ◌∙◌, subst, arith}
+use Rattle.std.proofs.lemmas.Bool.{or_cases, or_left, or_from, and_parts}
+use Rattle.std.specs.Prelude.{is_none}
 use Rattle.std.proofs.lemmas.List.{nil_from_length}
 use Rattle.std.proofs.lemmas.List.Folds.{list_any-append}
 use Rattle.bp_base.specs.Counts.{Rose}
@@ -9,14 +10,24 @@ use Rattle.bp_lanes.specs.declared.ends.Mouth.{Mouth}
 use Rattle.bp_lanes.specs.Lanes.{offered}
 use Rattle.bp_feeds.specs.declared.feed.Feed.{Feed}
 use Rattle.bp_feeds.specs.Items.{is_fault, has_fault, has_last}
-use Rattle.bp_feeds.specs.Reading.{BeginsItems}
+use Rattle.bp_feeds.specs.Reading.{is_read, BeginsItems}
 use Rattle.bp_feeds.specs.Feeds.{given, is_over, GoesOn}
-use Rattle.bp_feeds.proofs.Going.{rose_on, rose_from, stands_on}
+use Rattle.bp_feeds.proofs.Going.{rose_on, rose_from, sound_parts, stands_on}
 use Rattle.bp_inject.specs.Injectors.{IsUnread, IsFrom, CameBack}
 use Rattle.bp_inject.proofs.Begins.{begins, over_is_last}
 
 fault_of : (xs ys zs : List Item) → zs ≡ xs ++ ys → has_fault zs ≡ true → (has_fault xs ≡ true) ⊎ (has_fault ys ≡ true)
 fault_of xs ys zs is h = or_cases (has_fault xs) (has_fault ys) (sym (list_any-append is_fault xs ys) ∙ ap has_fault (sym is) ∙ h)
+
+kept_none : (k : Option Item) → is_none k ≡ true → has_fault (option_to_list k) ≡ false
+kept_none None h = refl
+kept_none (Some i) h = absurd (cc)
+
+-- a feed that is over keeps nothing
+over_sound : {S : Type 0} (f : Feed S) → is_over f ≡ true → has_fault (offered f.mouth) ≡ false → has_fault (given f) ≡ false
+over_sound f o h =
+    list_any-append is_fault (offered f.mouth) (option_to_list f.kept)
+    ∙ or_from (has_fault (offered f.mouth)) (has_fault (option_to_list f.kept)) h (kept_none f.kept (and_parts (is_read f.lines.reached) (is_none f.kept) o).1)
 
 -- a fresh feed has given nothing
 pub unread : {S : Type 0} (source : S) (feed : Feed S) (mouth : Mouth) → (feed.lines.source ≡ source) × (feed.mouth ≡ mouth) × (feed.kept ≡ None) → length (offered mouth) ≡ 0 → IsUnread source feed
@@ -35,6 +46,7 @@ module _ {S : Type 0} (left : S → Option (List ℕ)) (faults : S → ℕ) wher
         (λ (k : has_fault (given old) ≡ true). rose_on (faults source) (faults old.lines.source) (faults new.lines.source) (f.cause k) f.counts g.counts)
         (λ (k : has_fault g.more ≡ true). rose_from (faults source) (faults old.lines.source) (faults new.lines.source) (g.cause k) f.counts)
         (fault_of (given old) g.more (given new) g.all h);
+    told = λ h. let p = sound_parts (given old) g.more (ap has_fault (sym g.all) ∙ h) in g.told p.1 ∙ f.told p.0;
     counts = omega (arith, f.counts, g.counts);
   }
 
@@ -51,5 +63,6 @@ module _ {S : Type 0} (left : S → Option (List ℕ)) (faults : S → ℕ) wher
             let all : has_fault (given end) ≡ true =
             list_any-append is_fault (offered end.mouth) (option_to_list end.kept) ∙ or_left (has_fault (offered end.mouth)) (has_fault (option_to_list end.kept)) (ap has_fault (sym a) ∙ h) in
             subst (λ y. Rose (faults source) (faults y)) (sym e) (f.cause all);
+        told = λ l h. ap faults e ∙ f.told (over_sound end (sym last ∙ l) (ap has_fault (sym a) ∙ h));
         counts = omega (arith, f.counts, ap faults e);
       }

@@ -79,7 +79,7 @@ module _ {S : Type 0} (left : S → Option (List ℕ)) (faults : S → ℕ) wher
         behind = behind;
         came = λ source f.
             let c = h source f in
-            subst (λ (xs : List Item). HasOffered left faults source back xs) e (record { begins = c.begins; cause = c.cause; counts = c.counts });
+            subst (λ (xs : List Item). HasOffered left faults source back xs) e (record { begins = c.begins; cause = c.cause; told = c.told; counts = c.counts });
       }
 
   fault_in : (xs ks : List Item) → has_fault (xs ++ Failed ∷ ks) ≡ true

@@ -1,11 +1,11 @@
 -- What is known of injectors while something is served, and of their sources once they came back.
-use Rattle.std.specs.Prelude.{◌≡◌, ◌≤◌, ◌<◌, ℕ, true, List, [], ◌∷◌, ◌++◌, length, Option, Some, None, slice_index_or}
+use Rattle.std.specs.Prelude.{◌≡◌, ◌≤◌, ◌<◌, ℕ, true, false, List, [], ◌∷◌, ◌++◌, length, Option, Some, None, slice_index_or}
 use Rattle.bp_base.specs.Counts.{Rose}
 use Rattle.bp_log.specs.declared.item.Item.{Item}
 use Rattle.bp_log.specs.declared.item.Item.TheVariants.{Failed}
 use Rattle.bp_log.specs.declared.record.Record.{Record}
 use Rattle.bp_lanes.specs.Lanes.{taken}
-use Rattle.bp_feeds.specs.Items.{has_fault}
+use Rattle.bp_feeds.specs.Items.{has_last, has_fault}
 use Rattle.bp_feeds.specs.Reading.{BeginsItems}
 use Rattle.bp_inject.specs.Injectors.{IsTied, IsFrom, feed_of}
 use Rattle.bp_steps.specs.Merging.{items_by}
@@ -39,11 +39,13 @@ module _ {S : Type 0} where
         → IsFrom left faults source (feed_of new.started)
 
   -- The injector of this source was joined: it had offered these items, which begin those of the
-  -- source's bytes, and a fault is among them only where the source failed.
+  -- source's bytes. A fault is among them only where the source failed, and where the last of them is
+  -- no fault, the source's count of faults stayed.
   pub record HasOffered (left : S → Option (List ℕ)) (faults : S → ℕ) (source back : S)
       (offers : List Item) : Type 0 where
     pub begins : BeginsItems (left source) (left back) offers
     pub cause : has_fault offers ≡ true → Rose (faults source) (faults back)
+    pub told : has_last offers ≡ true → has_fault offers ≡ false → faults back ≡ faults source
     pub counts : faults source ≤ faults back
 
   -- The injector was joined, and its source came back.

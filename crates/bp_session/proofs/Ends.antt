@@ -1,14 +1,22 @@
 -- How serving ends.
-use Rattle.std.proofs.Common.{◌≡◌, ℕ, List, [], refl, append-nil, Option, Some, None, IsSome, Ok, Err, subst, sym}
-use Rattle.std.specs.Prelude.{Result, IfOk, OnOk, IfErr, IfSome}
+use Rattle.std.proofs.Common.{◌≡◌, ◌∙◌, ℕ, Bool, true, false, List, [], refl, ap, append-nil, Option, Some, None, IsSome, Ok, Err, subst, sym}
+use Rattle.std.specs.Prelude.{Result, IfOk, OnOk, IfErr, IfSome, is_none, option_map}
+use Rattle.std.proofs.lemmas.Bool.{and_parts}
 use Rattle.js_value.specs.Value.{PlainSet}
 use Rattle.js_meaning.specs.Bodies.{Origin}
 use Rattle.bp_log.specs.Options.{PlainOptions}
 use Rattle.bp_log.specs.Records.{verdict_of}
 use Rattle.bp_log.specs.declared.verdict.Verdict as logs
 use Rattle.bp_run.specs.Bodies.{Code}
+use Rattle.bp_run.specs.Configuration.{Configuration}
+use Rattle.bp_run.specs.Settling.{at_rest}
+use Rattle.bp_run.specs.Story.{is_over}
 use Rattle.bp_run.specs.Text.{text}
+use Rattle.bp_steps.specs.Steps.{pair_at}
+use Rattle.bp_floor.specs.declared.phase.Phase.TheVariants.{Rest}
+use Rattle.bp_arbiter.specs.Arbiters.{code_in, options_in}
 use Rattle.bp_core.specs.declared.stepping.Core.{Core}
+use Rattle.bp_core.proofs.Leads.{is_at_rest, told_is}
 use Rattle.bp_scope.specs.declared.reading.Reading.{Reading}
 use Rattle.bp_scope.specs.Readings.{HasFailed}
 use Rattle.bp_told.specs.Told.{Given, Waiting, WritesAll, WritesPart}
@@ -17,9 +25,26 @@ use Rattle.bp_told.specs.declared.fault.RunFault.TheVariants.{Write, LogWrite, M
 use Rattle.bp_told.proofs.Told.{told_broken, broken_part}
 use Rattle.bp_session.specs.declared.stop.Stop.{Stop}
 use Rattle.bp_session.specs.declared.stop.Stop.TheVariants as stop
+use Rattle.bp_session.specs.Reports.{HasNoVerdict}
 use Rattle.bp_session.specs.inner.Serving.{IsReady, IsServing, IsAllTold, IsBrokenOff, IsAllWritten, IsFrontWritten, IsServedTo, IsEnded, WritesRun, StopsServing, CanTellRest, ending_of}
 
+no_verdict : (v : Option logs.Verdict) → is_none v ≡ true → (elim v [ None ↦ false | Some w ↦ true ]) ≡ false
+no_verdict None h = refl
+no_verdict (Some v) h = absurd (cc)
+
 module _ {L : Type 0} (written : L → Option (List ℕ)) (l : Code Origin PlainSet) (o : PlainOptions) (head : List ℕ) (first : Given L) (c : Core) where
+  -- where the core rests, its records have no verdict
+  pub undecided : (now : Given L) (w : Waiting) → IsServing written l o head first c now w → c.arbiter.phase ≡ Rest → HasNoVerdict l o c.arbiter.records
+  undecided now w s f =
+      let m = s.moment in
+      let h = ((s.here).at).at in
+      let rests = is_at_rest c.arbiter c.jobs.items s.taken m h f in
+      let none : is_over m.told ≡ false = no_verdict m.told.stand.verdict (and_parts (at_rest (pair_at m)) (is_none m.told.stand.verdict) rests).1 in
+      let told : HasNoVerdict (code_in c.arbiter) (options_in c.arbiter) c.arbiter.records =
+      ap (λ (x : Option (Configuration Origin)). option_map (λ (d : Configuration Origin). is_over d) x) (told_is c.arbiter c.jobs.items s.taken m h f) ∙ ap (λ (b : Bool). Some b) none in
+      subst (λ (k : Code Origin PlainSet). HasNoVerdict k o c.arbiter.records) s.code
+      (subst (λ (p : PlainOptions). HasNoVerdict (code_in c.arbiter) p c.arbiter.records) s.options told)
+
   -- all that was told was written
   pub all_written : (old new : Given L) (w v : Waiting) → WritesAll written old w new v → IsAllTold written l o head first c old w → IsAllWritten written l o head first c new
   all_written old new w v f t =

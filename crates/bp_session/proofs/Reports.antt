@@ -34,7 +34,7 @@ use Rattle.bp_feeds.specs.Items.{is_end, has_end, items}
 use Rattle.bp_feeds.specs.Reading.{IsAll}
 use Rattle.bp_steps.specs.Merging.{item_by, items_by}
 use Rattle.bp_hear.specs.Heard.{EachHeard, EachHeardWhole}
-use Rattle.bp_hear.proofs.Back.{heard_back, heard_whole, heard_to_fault}
+use Rattle.bp_hear.proofs.Back.{heard_back, heard_whole, heard_to_fault, sound_whole}
 use Rattle.bp_scope.specs.Readings.{AreBack, HasBroken}
 use Rattle.bp_core.specs.declared.stepping.Core.{Core}
 use Rattle.bp_told.specs.Order.{PrintsBehind}
@@ -46,7 +46,7 @@ use Rattle.bp_session.specs.declared.report.Ending.{Ending}
 use Rattle.bp_session.specs.declared.report.Ending.TheVariants as ending
 use Rattle.bp_session.specs.inner.Lending.{Begins}
 use Rattle.bp_session.specs.inner.Outlets.{ended_fault, IsCaused}
-use Rattle.bp_session.specs.Reports.{Wholly, Partly, BrokeAt, ComeBack, EndsAs}
+use Rattle.bp_session.specs.Reports.{Wholly, Partly, NoneFailed, BrokeAt, ComeBack, EndsAs}
 use Rattle.bp_log.specs.Verdicts.{IsQuiet}
 use Rattle.bp_session.specs.inner.Serving.{IsAllWritten, IsFrontWritten, IsEnded, EndsServing, broke_at}
 
@@ -120,8 +120,19 @@ module _ {S : Type 0} (left : S → Option (List ℕ)) (faults : S → ℕ) (sou
       heard_whole k records b.behind (left (slice_index_or sources k d)) (left (slice_index_or back k d)) (b.offered).begins
       (end_heard k records (quiet_heard l o records n k c waits h v there) (quiet_good l o records n c h v))
 
-  pub whole_at : (l : Code Origin PlainSet) (o : PlainOptions) (c : Configuration Origin) (v : logs.Verdict) → length sources ≡ o.injectors → story l o records ≡ Some c → verdict_of records ≡ Some v → o.wait ≡ true → IsQuiet v → EachHeardWhole left sources back records
-  whole_at l o c (verdict.Quiet n) e h w waits q = each_whole l o c n waits e h w
+  -- and none of them failed
+  pub none_failed : (l : Code Origin PlainSet) (o : PlainOptions) (c : Configuration Origin) (n : ℕ) → o.wait ≡ true → length sources ≡ o.injectors → story l o records ≡ Some c → verdict_of records ≡ Some (verdict.Quiet n) →
+      NoneFailed faults sources back
+  none_failed l o c n waits e h v k d less =
+      let b = came.each k d less in
+      let there : k < o.injectors = subst (λ (m : ℕ). k < m) e less in
+      let sound = sound_whole (left (slice_index_or sources k d)) (left (slice_index_or back k d)) (items_by k records) b.behind (b.offered).begins
+      (end_heard k records (quiet_heard l o records n k c waits h v there) (quiet_good l o records n c h v)) in
+      (b.offered).told sound.0 sound.1
+
+  pub whole_at : (l : Code Origin PlainSet) (o : PlainOptions) (c : Configuration Origin) (v : logs.Verdict) → length sources ≡ o.injectors → story l o records ≡ Some c → verdict_of records ≡ Some v → o.wait ≡ true → IsQuiet v →
+      EachHeardWhole left sources back records × NoneFailed faults sources back
+  whole_at l o c (verdict.Quiet n) e h w waits q = (each_whole l o c n waits e h w, none_failed l o c n waits e h w)
   whole_at l o c _ e h w waits q = absurd q
 
   pub broke_at_source : (j : ℕ) → HasBroken left faults sources back records j → BrokeAt left faults sources back records j
@@ -162,11 +173,11 @@ module _ {L : Type 0} (written : L → Option (List ℕ)) (l : Code Origin Plain
       (came : AreBack left source_faults sources back c.arbiter.records) (many : length sources ≡ o.injectors) where
     pub ends_as : (e : Ending) → IsEnded written l o head first c now e → IfSome (ended_fault e) (IsCaused k g out_old out_new first.log now.log) →
         IfSome (broke_at e) (HasBroken left source_faults sources back c.arbiter.records) →
-        EndsAs written g.faults k.faults o.wait (text l o) head out_old out_new first now left source_faults sources back c.arbiter.records e
+        EndsAs written g.faults k.faults l o head out_old out_new first now left source_faults sources back c.arbiter.records e
     ends_as (ending.Verdict v) i k b =
         let t = told_of l o c.arbiter.records (text_whole written l o head first c now i.1) in
         (i.0, wholly written l o head first c now i.1, λ waits q. whole_at left source_faults sources back c.arbiter.records came l o t.0 v many t.1 i.0 waits q)
-    ends_as (ending.Read j) i k b = (i.0, wholly written l o head first c now i.1, broke_at_source left source_faults sources back c.arbiter.records came j b)
+    ends_as (ending.Read j) i k b = (i.0, wholly written l o head first c now i.1, broke_at_source left source_faults sources back c.arbiter.records came j b, i.2)
     ends_as ending.Write i k b = (partly written l o head first c now i, k)
     ends_as ending.LogWrite i k b = (partly written l o head first c now i, k)
     ends_as ending.Memory i k b = partly written l o head first c now i

@@ -1,11 +1,18 @@
 -- What a report says of the records, of what was written, and of the inputs.
-use Rattle.std.specs.Prelude.{◌≡◌, ◌≤◌, ℕ, ◌<◌, Bool, true, false, List, ◌++◌, length, Option, Some, IsSomeAnd, slice_index_or}
+use Rattle.std.specs.Prelude.{◌≡◌, ◌≤◌, ℕ, ◌<◌, true, false, List, ◌++◌, length, Option, Some, IsSomeAnd, option_map, slice_index_or}
+use Rattle.js_value.specs.Value.{PlainSet}
+use Rattle.js_meaning.specs.Bodies.{Origin}
 use Rattle.bp_base.specs.Counts.{Rose}
 use Rattle.bp_base.specs.Pieces.{Appends, AppendsFront}
 use Rattle.bp_log.specs.Logs.{records_text}
+use Rattle.bp_log.specs.Options.{PlainOptions}
 use Rattle.bp_log.specs.Records.{verdict_of, is_complete}
 use Rattle.bp_log.specs.declared.record.Record.{Record}
 use Rattle.bp_log.specs.Verdicts.{IsQuiet}
+use Rattle.bp_run.specs.Bodies.{Code}
+use Rattle.bp_run.specs.Configuration.{Configuration}
+use Rattle.bp_run.specs.Story.{is_over, story}
+use Rattle.bp_run.specs.Text.{text}
 use Rattle.bp_steps.specs.Merging.{items_by}
 use Rattle.bp_told.specs.Logging.{LogGets, LogGetsFront, LogFails}
 use Rattle.bp_told.specs.Order.{Texts}
@@ -13,6 +20,11 @@ use Rattle.bp_told.specs.Told.{Given}
 use Rattle.bp_hear.specs.Heard.{IsHeardToFault, EachHeardWhole}
 use Rattle.bp_session.specs.declared.report.Ending.{Ending}
 use Rattle.bp_session.specs.declared.report.Ending.TheVariants.{Verdict, Read, Write, LogWrite, Memory}
+
+-- the records are a story of this code, and there is no verdict at its end
+abbrev pub HasNoVerdict : Code Origin PlainSet → PlainOptions → List Record → Type 0
+HasNoVerdict l o records =
+    option_map (λ (c : Configuration Origin). is_over c) (story l o records) ≡ Some false
 
 module _ {L : Type 0} (written : L → Option (List ℕ)) (text : Texts) (head : List ℕ)
     (records : List Record) (old new : Given L) where
@@ -25,6 +37,12 @@ module _ {L : Type 0} (written : L → Option (List ℕ)) (text : Texts) (head :
   pub record Partly : Type 0 where
     pub prints : IsSomeAnd (text records) (λ t. AppendsFront old.printed t new.printed)
     pub logs : LogGetsFront written old.log (head ++ records_text records) new.log
+
+-- no source failed: the count of each is what it was
+abbrev pub NoneFailed : {S : Type 0} → (S → ℕ) → List S → List S → Type 0
+NoneFailed {S = S} faults sources back =
+    (k : ℕ) (d : S) → k < length sources
+    → faults (slice_index_or back k d) ≡ faults (slice_index_or sources k d)
 
 module _ {S : Type 0} (left : S → Option (List ℕ)) (faults : S → ℕ) (sources back : List S)
     (records : List Record) where
@@ -44,17 +62,21 @@ module _ {S : Type 0} (left : S → Option (List ℕ)) (faults : S → ℕ) (sou
         → faults (slice_index_or sources k d) ≤ faults (slice_index_or back k d)
 
 module _ {K L S : Type 0} (written : L → Option (List ℕ)) (log_faults : L → ℕ) (faults : K → ℕ)
-    (waits : Bool) (text : Texts) (head : List ℕ) (out_old out_new : K) (old new : Given L)
-    (left : S → Option (List ℕ)) (broke : S → ℕ) (sources back : List S)
+    (l : Code Origin PlainSet) (o : PlainOptions) (head : List ℕ) (out_old out_new : K)
+    (old new : Given L) (left : S → Option (List ℕ)) (broke : S → ℕ) (sources back : List S)
     (records : List Record) where
-  -- what each ending says, of a run that waits for its injectors or does not
+  -- What each ending says. Where the run waits for its injectors and comes to be quiet, each of them was
+  -- heard to its end and none failed; where one failed, there was no verdict before.
   abbrev pub EndsAs : Ending → Type 0
   EndsAs (Verdict v) =
-      (verdict_of records ≡ Some v) × Wholly written text head records old new
-      × (waits ≡ true → IsQuiet v → EachHeardWhole left sources back records)
+      (verdict_of records ≡ Some v) × Wholly written (text l o) head records old new
+      × (o.wait ≡ true → IsQuiet v
+      → EachHeardWhole left sources back records × NoneFailed broke sources back)
   EndsAs (Read j) =
-      (is_complete records ≡ false) × Wholly written text head records old new
-      × BrokeAt left broke sources back records j
-  EndsAs Write = Partly written text head records old new × Rose (faults out_old) (faults out_new)
-  EndsAs LogWrite = Partly written text head records old new × LogFails log_faults old.log new.log
-  EndsAs Memory = Partly written text head records old new
+      (is_complete records ≡ false) × Wholly written (text l o) head records old new
+      × BrokeAt left broke sources back records j × HasNoVerdict l o records
+  EndsAs Write =
+      Partly written (text l o) head records old new × Rose (faults out_old) (faults out_new)
+  EndsAs LogWrite =
+      Partly written (text l o) head records old new × LogFails log_faults old.log new.log
+  EndsAs Memory = Partly written (text l o) head records old new

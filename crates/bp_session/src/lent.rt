@@ -28,6 +28,7 @@ use bp_told::{RunFault, Telling};
 use std::alloc::Global;
 use std::sync::Wait;
 use std::thread::Threads;
+use std::time::Clock;
 
 /// The ending that a fault comes to.
 fn ending_of(fault: RunFault) -> Ending
@@ -149,7 +150,7 @@ pub(crate) struct Lent<'a, 'b, 'c, K, L, S, V> {
 
 /// Serves the run to its end, and writes what was told of it. Without injectors nobody
 /// calls.
-fn serve_parts<S: Source + Drop, R: Threads + Wait + Sync, K: Sink, L: Sink, V: Shows>(
+fn serve_parts<S: Source + Drop, R: Threads + Wait + Sync + Clock, K: Sink, L: Sink, V: Shows>(
     rt: &R,
     alloc: Global,
     mut calls: Option<Calls<'_>>,
@@ -186,14 +187,13 @@ fn serve_parts<S: Source + Drop, R: Threads + Wait + Sync, K: Sink, L: Sink, V: 
 
 /// Serves the run to its end without injectors: no thread is made, no lock is taken and no bell is rung.
 /// The inputs, of which there are none, come back.
-pub(crate) fn serve_alone<S: Source + Drop, R: Threads + Wait + Sync, K: Sink, L: Sink, V: Shows>(
-    rt: &R,
-    alloc: Global,
-    inputs: Vec<S>,
-    parts: &mut Parts<S, V>,
-    out: &mut K,
-    log: &mut Option<L>,
-)
+pub(crate) fn serve_alone<
+    S: Source + Drop,
+    R: Threads + Wait + Sync + Clock,
+    K: Sink,
+    L: Sink,
+    V: Shows,
+>(rt: &R, alloc: Global, inputs: Vec<S>, parts: &mut Parts<S, V>, out: &mut K, log: &mut Option<L>)
     requires none { inputs.items ≡ [] }
     requires ready { IsReady L.written parts.old.core (given K.written out.old log.old)
         parts.old.telling }
@@ -214,7 +214,7 @@ pub(crate) fn serve_alone<S: Source + Drop, R: Threads + Wait + Sync, K: Sink, L
     parts.back = inputs;
 }
 
-impl<K: Sink, L: Sink, S: Source + Drop, R: Threads + Wait + Sync, V: Shows> Serves<S, R>
+impl<K: Sink, L: Sink, S: Source + Drop, R: Threads + Wait + Sync + Clock, V: Shows> Serves<S, R>
     for Lent<'_, '_, '_, K, L, S, V> {
     ghost use denote.Param.Send.{IsSync};
     ghost use Rattle.bp_session.specs.inner.Lending.{IsServed};

@@ -6,6 +6,7 @@ mod calling;
 mod hearing;
 mod lent;
 mod outlets;
+mod pacing;
 mod report;
 mod running;
 mod serving;

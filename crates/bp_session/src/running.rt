@@ -31,6 +31,7 @@ use js_program::Program;
 use std::alloc::Global;
 use std::sync::Wait;
 use std::thread::Threads;
+use std::time::Clock;
 
 /// All for which a session takes memory before it is served.
 struct Opened<S: Source> {
@@ -66,7 +67,7 @@ fn begin<S: Source + Drop, L: Sink>(
 }
 
 /// Serves what is lent, in a scope in which each input, if there are any, has an injector.
-fn served<S: Source + Send + Drop, R: Threads + Wait + Sync, K: Sink, L: Sink, V: Shows>(
+fn served<S: Source + Send + Drop, R: Threads + Wait + Sync + Clock, K: Sink, L: Sink, V: Shows>(
     rt: &R,
     alloc: Global,
     places: Places<S>,
@@ -121,7 +122,7 @@ impl Session {
     /// inside, since the wait asks for evidence of it. If nothing can be selected, a run that waits for its
     /// injectors waits for one that is still read, and any other run ends. This returns once each injector
     /// has returned from its source.
-    pub fn run<S: Source + Send + Drop, R: Threads + Wait + Sync, K: Sink, L: Sink>(
+    pub fn run<S: Source + Send + Drop, R: Threads + Wait + Sync + Clock, K: Sink, L: Sink>(
         rt: &R,
         alloc: Global,
         program: Program,
@@ -138,9 +139,9 @@ impl Session {
             ≡ Some result.0.records }
         ensures heard { EachHeard S.left inputs.items result.1.items result.0.records }
         ensures back { ComeBack S.left S.faults inputs.items result.1.items result.0.records }
-        ensures ends { EndsAs L.written L.faults K.faults header.now.options.wait
-            (text_of program header.now.options) (header_text Second header.now)
-            out.old out.new (given K.written out.old log.old)
+        ensures ends { EndsAs L.written L.faults K.faults
+            (code_of program header.now.options) header.now.options
+            (header_text Second header.now) out.old out.new (given K.written out.old log.old)
             (given K.written out.new log.new) S.left S.faults inputs.items result.1.items
             result.0.records result.0.end }
 

@@ -21,6 +21,7 @@ ghost use Rattle.bp_turns.specs.Settled.{IsSomewhereHere, IsSettled};
 use crate::calling::Calls;
 use crate::hearing::hear_all;
 use crate::outlets::Outlets;
+use crate::pacing::Pace;
 use crate::showing::Shows;
 use crate::stop::Stop;
 use crate::telling::{tell, write};
@@ -35,6 +36,7 @@ use bp_turns::{Carrier, Workers, settle_core};
 use std::alloc::Global;
 use std::sync::Wait;
 use std::thread::Threads;
+use std::time::Clock;
 
 /// Writes what waits to be written, and then shows the run as it stands.
 fn write_and_show<R: Threads + Wait + Sync, K: Sink, L: Sink, V: Shows>(
@@ -142,20 +144,20 @@ fn wait_where<S: Source, R: Threads + Wait + Sync, K: Sink, L: Sink, V: Shows>(
     Ok(())
 }
 
-/// Writes what waits to be written, if something entered in the round before.
+/// Writes what waits to be written, if it is due.
 fn write_where<K: Sink, L: Sink>(
-    heard: bool,
+    due: bool,
     telling: &mut Telling,
     outlets: &mut Outlets<'_, '_, K, L>,
 ) -> Result<(), Stop>
-    ensures told { OnOk result (IsToldStill L.written heard (given_to K.Sink outlets.old)
+    ensures told { OnOk result (IsToldStill L.written due (given_to K.Sink outlets.old)
         telling.old (given_to K.Sink outlets.new) telling.new) }
     ensures stops { IfErr result (StopsTurning L.written (given_to K.Sink outlets.old) telling.old
         (given_to K.Sink outlets.new) telling.new) }
     ensures kept { telling.new.kept ≡ telling.old.kept }
     ensures writes { WritesTo K.Sink L.Sink outlets.old outlets.new (served_fault result) }
 {
-    if !heard {
+    if !due {
         return Ok(());
     }
     write(telling, outlets)
@@ -315,10 +317,12 @@ fn settle_and_tell<C: Carrier, K: Sink, L: Sink>(
 }
 
 /// Serves the run to its verdict: has what is there of the injectors enter, makes what comes next, has
-/// jobs carried to their outcomes, and tells all of it as it comes. What is told is written before the run
-/// waits for an injector or a source, after a round in which something entered, and once the run is over.
-/// The run is shown before it waits so, and once it is over. Without injectors there is nobody to wait for.
-pub(crate) fn serve_on<S: Source, R: Threads + Wait + Sync, K: Sink, L: Sink, V: Shows>(
+/// jobs carried to their outcomes, and tells all of it as it comes. What waits at the start, the head of the
+/// log, is written before anything runs. What is told is written before the run waits for an injector or a
+/// source, after a round in which something entered, at the end of a turn where it waited for a second, and
+/// once the run is over. The run is shown before it waits so, and once it is over. Without injectors there is
+/// nobody to wait for.
+pub(crate) fn serve_on<S: Source, R: Threads + Wait + Sync + Clock, K: Sink, L: Sink, V: Shows>(
     rt: &R,
     alloc: Global,
     core: &mut Core,
@@ -340,14 +344,16 @@ pub(crate) fn serve_on<S: Source, R: Threads + Wait + Sync, K: Sink, L: Sink, V:
         readings.new.items }
     ensures writes { WritesTo K.Sink L.Sink outlets.old outlets.new (served_fault result) }
 {
+    write(telling, outlets)?;
     let workers = Workers { rt, parallelism };
+    let mut pace = Pace::new(rt);
     let mut heard = false;
     for _ in rt.forever() {
         settle_and_tell(alloc, core, &workers, telling, outlets)?;
         if core.arbiter().phase() == Phase::Over {
             return verdict_shown(rt, alloc, core, telling, outlets, shows);
         }
-        write_where(heard, telling, outlets)?;
+        write_where(pace.is_due(rt, heard), telling, outlets)?;
         heard = round(rt, alloc, core, telling, outlets, calls, readings, shows)?;
     }
     unreachable!()

@@ -8,6 +8,7 @@ use std::process::Abort;
 use std::sync::Wait;
 use std::test::Fail;
 use std::thread::Threads;
+use std::time::Clock;
 
 /// A world that holds some files, and the calls that are to fail: of the world, of one name, and of the
 /// output.
@@ -32,7 +33,7 @@ fn holding<'a>(files: &'a [(&'a str, &'a str)]) -> Held<'a> {
 }
 
 /// Runs `bp` with the words of the line, and says what it did and whether its records came to a verdict.
-fn ran_in<R: Threads + Wait + Sync>(
+fn ran_in<R: Threads + Wait + Sync + Clock>(
     rt: &R,
     alloc: Global,
     line: &str,
@@ -56,14 +57,18 @@ fn ran_in<R: Threads + Wait + Sync>(
 }
 
 /// What a replay of this log did.
-fn replayed<R: Threads + Wait + Sync>(rt: &R, alloc: Global, log: &[u8]) -> Result<Ran, Fail> {
+fn replayed<R: Threads + Wait + Sync + Clock>(
+    rt: &R,
+    alloc: Global,
+    log: &[u8],
+) -> Result<Ran, Fail> {
     let text = str::from_utf8(log).ok().ok_or("no text")?;
     ran_in(rt, alloc, "replay|l", holding(&[("l", text)]))
 }
 
 /// Whether the log of a run replays what the run did, and migrates to itself; where the run waits, its
 /// text in the first version does so too.
-fn is_told_in_each<R: Threads + Wait + Sync>(
+fn is_told_in_each<R: Threads + Wait + Sync + Clock>(
     rt: &R,
     alloc: Global,
     ran: &Ran,
@@ -85,7 +90,7 @@ fn is_told_in_each<R: Threads + Wait + Sync>(
 }
 
 /// The words print this with this status, whatever the workers and the slices, and the log replays it.
-fn prints<R: Threads + Wait + Sync + Abort>(
+fn prints<R: Threads + Wait + Sync + Clock + Abort>(
     rt: &R,
     alloc: Global,
     line: &str,
@@ -236,7 +241,7 @@ fn two_injectors_merge_and_the_log_replays_the_merge(rt: HostRuntime) -> Result<
 
 /// A run of the two with a log, in which these calls fail, ends with this status and this note, and prints a
 /// front of a merge without its verdict.
-fn breaks<R: Threads + Wait + Sync + Abort>(
+fn breaks<R: Threads + Wait + Sync + Clock + Abort>(
     rt: &R,
     alloc: Global,
     held: Held<'_>,
@@ -436,7 +441,7 @@ fn crossing_lines(alloc: Global) -> Result<(String, String), Fail> {
 }
 
 /// What the crossing does under these lines.
-fn crossed<'a, R: Threads + Wait + Sync>(
+fn crossed<'a, R: Threads + Wait + Sync + Clock>(
     rt: &R,
     alloc: Global,
     cars: &'a str,

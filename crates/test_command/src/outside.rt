@@ -7,6 +7,7 @@ use std::process::Abort;
 use std::sync::Wait;
 use std::test::Fail;
 use std::thread::Threads;
+use std::time::Clock;
 
 /// What was printed before a write that fails is a prefix of the trace. How many writes there are is not said: a number
 /// past them fails none.
@@ -35,7 +36,7 @@ fn a_write_that_fails_leaves_a_prefix(rt: HostRuntime) -> Result<(), Fail> {
     Ok(())
 }
 
-fn meets_read_fault<R: Threads + Wait + Sync + Abort>(
+fn meets_read_fault<R: Threads + Wait + Sync + Clock + Abort>(
     rt: &R,
     alloc: Global,
     words: &str,

@@ -8,6 +8,7 @@ use std::process::Abort;
 use std::sync::Wait;
 use std::test::Fail;
 use std::thread::Threads;
+use std::time::Clock;
 
 /// What the rows of a table have.
 #[derive(Clone, Copy)]
@@ -24,7 +25,7 @@ enum Rows {
 }
 
 /// Whether each of the commands ends with this status and this note, and prints this.
-fn come_to<R: Threads + Wait + Sync>(
+fn come_to<R: Threads + Wait + Sync + Clock>(
     rt: &R,
     alloc: Global,
     commands: &str,
@@ -41,7 +42,11 @@ fn come_to<R: Threads + Wait + Sync>(
     Ok(true)
 }
 
-fn run_holds<R: Threads + Wait + Sync>(rt: &R, alloc: Global, row: &str) -> Result<bool, Fail> {
+fn run_holds<R: Threads + Wait + Sync + Clock>(
+    rt: &R,
+    alloc: Global,
+    row: &str,
+) -> Result<bool, Fail> {
     let (commands, rest) = row.split_once(" --> ").ok_or("no status")?;
     let (status, rest) = rest.split_once(" ").ok_or("no script")?;
     let (script, told) = rest.split_once("==> ").ok_or("no trace")?;
@@ -54,7 +59,11 @@ fn run_holds<R: Threads + Wait + Sync>(rt: &R, alloc: Global, row: &str) -> Resu
     come_to(rt, alloc, commands, &script, (status, "", &printed))
 }
 
-fn trace_holds<R: Threads + Wait + Sync>(rt: &R, alloc: Global, row: &str) -> Result<bool, Fail> {
+fn trace_holds<R: Threads + Wait + Sync + Clock>(
+    rt: &R,
+    alloc: Global,
+    row: &str,
+) -> Result<bool, Fail> {
     let (front, rest) = row.split_once(" --> ").ok_or("no status")?;
     let (front, commands) = front.rsplit_once("\n").ok_or("no words")?;
     let (_, script) = front.split_once("\n").unwrap_or(("", ""));
@@ -66,7 +75,7 @@ fn trace_holds<R: Threads + Wait + Sync>(rt: &R, alloc: Global, row: &str) -> Re
     come_to(rt, alloc, commands, script.as_bytes(), want)
 }
 
-fn holds<R: Threads + Wait + Sync>(
+fn holds<R: Threads + Wait + Sync + Clock>(
     rt: &R,
     alloc: Global,
     rows: Rows,
@@ -80,7 +89,7 @@ fn holds<R: Threads + Wait + Sync>(
 }
 
 /// Each row of the table holds. Among rows of one line, a line that is indented goes on with the one before.
-fn agree<R: Threads + Wait + Sync + Abort>(
+fn agree<R: Threads + Wait + Sync + Clock + Abort>(
     rt: &R,
     alloc: Global,
     rows: Rows,

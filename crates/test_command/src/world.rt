@@ -8,6 +8,7 @@ use std::process::Abort;
 use std::sync::Wait;
 use std::test::Fail;
 use std::thread::Threads;
+use std::time::Clock;
 
 /// What a command did.
 #[derive(Debug, Drop)]
@@ -44,7 +45,7 @@ pub const NONE: Fails<'static> = Fails {
 };
 
 /// Runs `bp` with these words in a world that holds the script as `script.js`.
-pub fn run_words<R: Threads + Wait + Sync>(
+pub fn run_words<R: Threads + Wait + Sync + Clock>(
     rt: &R,
     alloc: Global,
     words: &[String],
@@ -75,7 +76,7 @@ pub fn words_in(alloc: Global, line: &str) -> Result<Vec<String>, Fail> {
 }
 
 /// Runs `bp` with the words that stand between the `|` of the line.
-pub fn run_with<R: Threads + Wait + Sync>(
+pub fn run_with<R: Threads + Wait + Sync + Clock>(
     rt: &R,
     alloc: Global,
     line: &str,
@@ -87,7 +88,7 @@ pub fn run_with<R: Threads + Wait + Sync>(
 }
 
 /// The words have this status and this note, and print this.
-pub fn tells<R: Threads + Wait + Sync + Abort>(
+pub fn tells<R: Threads + Wait + Sync + Clock + Abort>(
     rt: &R,
     alloc: Global,
     words: &str,
@@ -101,7 +102,7 @@ pub fn tells<R: Threads + Wait + Sync + Abort>(
 }
 
 /// The words fail with this status and this note, and print nothing.
-pub fn fails_with<R: Threads + Wait + Sync + Abort>(
+pub fn fails_with<R: Threads + Wait + Sync + Clock + Abort>(
     rt: &R,
     alloc: Global,
     words: &str,

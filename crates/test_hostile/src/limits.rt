@@ -5,6 +5,7 @@ use std::process::Abort;
 use std::sync::Wait;
 use std::test::Fail;
 use std::thread::Threads;
+use std::time::Clock;
 
 /// A line has a script, the mark `<--`, the lines of an injector, the mark `-->`, a status, and after the mark `==>` what is
 /// printed. `;;` is a line end, and `«N TEXT»` stands for this many texts.
@@ -60,7 +61,7 @@ fn bytes_of(alloc: Global, cell: &str) -> Result<Vec<u8>, Fail> {
 }
 
 /// Whether the run of a row is as it says, and so is the replay of its log.
-fn holds<R: Threads + Wait + Sync>(rt: &R, alloc: Global, row: &str) -> Result<bool, Fail> {
+fn holds<R: Threads + Wait + Sync + Clock>(rt: &R, alloc: Global, row: &str) -> Result<bool, Fail> {
     let (script, rest) = row.split_once(" <-- ").ok_or("no injector")?;
     let (lines, rest) = rest.split_once(" --> ").ok_or("no status")?;
     let (status, text) = rest.split_once(" ==> ").ok_or("no text")?;
@@ -79,7 +80,11 @@ fn holds<R: Threads + Wait + Sync>(rt: &R, alloc: Global, row: &str) -> Result<b
 }
 
 /// Each row of the table holds. A line that is indented goes on with the one before.
-fn hold<R: Threads + Wait + Sync + Abort>(rt: &R, alloc: Global, table: &str) -> Result<(), Fail> {
+fn hold<R: Threads + Wait + Sync + Clock + Abort>(
+    rt: &R,
+    alloc: Global,
+    table: &str,
+) -> Result<(), Fail> {
     let whole = table.replace(alloc, "\n    ", " ")?;
     for row in whole.as_str().trim().lines() {
         assert!(rt; holds(rt, alloc, row)?, "{row}");

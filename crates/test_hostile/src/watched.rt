@@ -8,6 +8,7 @@ use std::sync::Wait;
 use std::sync::atomic::AtomicU64;
 use std::test::Fail;
 use std::thread::Threads;
+use std::time::Clock;
 
 /// More bytes than a run prints.
 const ROOM: u64 = 100_000;
@@ -27,7 +28,7 @@ struct Injector<'a> {
 }
 
 /// What a run of the script with this injector did, by the words of this line.
-fn looked_by<R: Threads + Wait + Sync>(
+fn looked_by<R: Threads + Wait + Sync + Clock>(
     rt: &R,
     alloc: Global,
     line: &str,
@@ -62,7 +63,7 @@ fn looked_by<R: Threads + Wait + Sync>(
 }
 
 /// The same, with a log.
-fn looked<R: Threads + Wait + Sync>(
+fn looked<R: Threads + Wait + Sync + Clock>(
     rt: &R,
     alloc: Global,
     script: &str,
@@ -117,7 +118,7 @@ fn a_read_that_fails_behind_the_verdict(rt: HostRuntime) -> Result<(), Fail> {
 const ONCE: &str = r#"bp.registerBThread("A", () => { bp.sync({waitFor: bp.all}) })"#;
 
 /// What a run of one b-thread that waits for an event did, whose injector gives it once a line was printed.
-fn too_late<R: Threads + Wait + Sync>(
+fn too_late<R: Threads + Wait + Sync + Clock>(
     rt: &R,
     alloc: Global,
     line: &str,

@@ -5,6 +5,7 @@ use std::alloc::Global;
 use std::sync::Wait;
 use std::test::Fail;
 use std::thread::Threads;
+use std::time::Clock;
 
 /// More bytes than a run of these tests prints or keeps.
 const ROOM: u64 = 10_000_000;
@@ -38,7 +39,7 @@ pub fn words_in(alloc: Global, line: &str) -> Result<Vec<String>, Fail> {
 
 /// Runs `bp` with these words in a world that holds these bytes as `p` and as `i`, over an output whose write of
 /// this number fails.
-pub fn run_over<R: Threads + Wait + Sync>(
+pub fn run_over<R: Threads + Wait + Sync + Clock>(
     rt: &R,
     alloc: Global,
     line: &str,

@@ -7,6 +7,7 @@ use std::alloc::Global;
 use std::sync::Wait;
 use std::test::Fail;
 use std::thread::Threads;
+use std::time::Clock;
 
 /// As much as the outputs of the tests hold.
 pub const ROOM: u64 = 1_000_000;
@@ -63,7 +64,7 @@ pub fn ending(alloc: Global, report: Report) -> Result<String, Fail> {
 
 /// A session of the script with these inputs, by this many workers and slices, over this output and this
 /// log, which waits for its injectors.
-pub fn ends_as<S: Source + Send + Drop, K: Sink, R: Threads + Wait + Sync>(
+pub fn ends_as<S: Source + Send + Drop, K: Sink, R: Threads + Wait + Sync + Clock>(
     rt: &R,
     alloc: Global,
     script: &str,
@@ -76,7 +77,7 @@ pub fn ends_as<S: Source + Send + Drop, K: Sink, R: Threads + Wait + Sync>(
 }
 
 /// The same, where it waits for its injectors or does not.
-pub fn ends_waiting<S: Source + Send + Drop, K: Sink, R: Threads + Wait + Sync>(
+pub fn ends_waiting<S: Source + Send + Drop, K: Sink, R: Threads + Wait + Sync + Clock>(
     rt: &R,
     alloc: Global,
     script: &str,
@@ -97,7 +98,7 @@ pub fn ends_waiting<S: Source + Send + Drop, K: Sink, R: Threads + Wait + Sync>(
 }
 
 /// The same over memory, of a run that waits for its injectors.
-pub fn told<R: Threads + Wait + Sync>(
+pub fn told<R: Threads + Wait + Sync + Clock>(
     rt: &R,
     alloc: Global,
     script: &str,
@@ -119,7 +120,7 @@ pub fn told<R: Threads + Wait + Sync>(
 }
 
 /// The same, where it waits for its injectors or does not.
-pub fn told_waiting<R: Threads + Wait + Sync>(
+pub fn told_waiting<R: Threads + Wait + Sync + Clock>(
     rt: &R,
     alloc: Global,
     script: &str,

@@ -5,11 +5,12 @@ use std::alloc::Global;
 use std::sync::Wait;
 use std::test::Fail;
 use std::thread::Threads;
+use std::time::Clock;
 
 const WHOLE: &str = "external [\"a\"]\nexternal [\"b\"]\nverdict quiet 2\n";
 
 /// A session whose injector, output and log fail at the reads and writes of these numbers.
-fn failing<R: Threads + Wait + Sync>(
+fn failing<R: Threads + Wait + Sync + Clock>(
     rt: &R,
     alloc: Global,
     read: u64,

@@ -7,6 +7,7 @@ use std::alloc::{AllocError, Global};
 use std::sync::Wait;
 use std::test::Fail;
 use std::thread::Threads;
+use std::time::Clock;
 
 /// How many lines each of two injectors has.
 const LINES: u32 = 500;
@@ -35,7 +36,7 @@ pub fn printed_again(alloc: Global, log: &str) -> Result<String, Fail> {
 }
 
 /// A session with two injectors of many lines.
-fn two<R: Threads + Wait + Sync>(
+fn two<R: Threads + Wait + Sync + Clock>(
     rt: &R,
     alloc: Global,
     parallelism: (u32, u64),

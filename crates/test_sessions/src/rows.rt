@@ -4,6 +4,7 @@ use std::alloc::Global;
 use std::sync::Wait;
 use std::test::Fail;
 use std::thread::Threads;
+use std::time::Clock;
 
 const BLOCKED: &str =
     "bp.registerBThread(\"B\", () => { bp.sync({waitFor: bp.Event(\"go\"), block: bp.Event(\"x\")}) }); \
@@ -25,7 +26,7 @@ pub const ONCE: &str = r#"bp.registerBThread("A", () => { bp.sync({waitFor: bp.a
 pub const BESIDES: [(u32, u64); 4] = [(1, 1), (1, 10_000), (2, 7), (8, 10_000)];
 
 /// A blocked event keeps its place and is overtaken.
-fn blocked<R: Threads + Wait + Sync>(
+fn blocked<R: Threads + Wait + Sync + Clock>(
     rt: &R,
     alloc: Global,
     parallelism: (u32, u64),
@@ -72,7 +73,7 @@ fn is_merge(text: &str) -> bool {
 }
 
 /// Six events come in one of twenty merges.
-fn merged<R: Threads + Wait + Sync>(
+fn merged<R: Threads + Wait + Sync + Clock>(
     rt: &R,
     alloc: Global,
     parallelism: (u32, u64),

@@ -11,6 +11,7 @@ use std::sync::Wait;
 use std::sync::atomic::{AtomicU64, Ordering};
 use std::test::Fail;
 use std::thread::Threads;
+use std::time::Clock;
 
 /// How often one looks that looks for what will not come.
 const FEW_LOOKS: u64 = 200_000;
@@ -21,7 +22,7 @@ const REQUESTS: &str = r#"bp.registerBThread("A", () => { bp.sync({request: bp.E
 
 /// A session of the script, this many injectors of which give an event only once this many lines are printed.
 /// Each looks so often at most, and fails then.
-fn asleep<R: Threads + Wait + Sync>(
+fn asleep<R: Threads + Wait + Sync + Clock>(
     rt: &R,
     alloc: Global,
     script: &str,
@@ -155,7 +156,7 @@ fn loud(alloc: Global) -> Result<String, AllocError> {
 
 /// The end of what a run prints that does not wait, whose injector has offered its line before anything is
 /// selected: the output waits until its source is read again.
-fn in_time<R: Threads + Wait + Sync>(
+fn in_time<R: Threads + Wait + Sync + Clock>(
     rt: &R,
     alloc: Global,
     parallelism: (u32, u64),
@@ -210,7 +211,7 @@ fn what_is_there_in_time_is_taken(rt: HostRuntime) -> Result<(), Fail> {
 
 /// A run of this script that does not wait, over an injector of this text, whose reads of these numbers
 /// fail, as do these writes of the output and of the log.
-fn unwaited<R: Threads + Wait + Sync>(
+fn unwaited<R: Threads + Wait + Sync + Clock>(
     rt: &R,
     alloc: Global,
     text: &str,

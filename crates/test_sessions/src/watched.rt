@@ -9,6 +9,7 @@ use std::sync::Wait;
 use std::sync::atomic::{AtomicU64, Ordering};
 use std::test::Fail;
 use std::thread::{Threads, yield_now};
+use std::time::Clock;
 
 /// How often a source looks at most; it lets other threads run after each look.
 pub const LOOKS: u64 = 20_000_000;
@@ -124,7 +125,11 @@ pub fn awaiting<'a>(
 }
 
 /// This many injectors whose first reads wait for one another.
-fn meeting<R: Threads + Wait + Sync>(rt: &R, alloc: Global, many: u32) -> Result<String, Fail> {
+fn meeting<R: Threads + Wait + Sync + Clock>(
+    rt: &R,
+    alloc: Global,
+    many: u32,
+) -> Result<String, Fail> {
     let seen = AtomicU64::new(0);
     let mut inputs = Vec::new(alloc);
     for _input in 0..many {
@@ -149,7 +154,7 @@ fn sixteen_injectors_are_read_at_once(rt: HostRuntime) -> Result<(), Fail> {
 }
 
 /// A session whose injector gives a second piece once this many lines were printed.
-fn printed_first<R: Threads + Wait + Sync>(
+fn printed_first<R: Threads + Wait + Sync + Clock>(
     rt: &R,
     alloc: Global,
     seen: &AtomicU64,

@@ -23,6 +23,7 @@ use Rattle.bp_turns.specs.Settled.{IsHere}
 use Rattle.bp_told.specs.declared.fault.RunFault.TheVariants as fault
 use Rattle.bp_scope.specs.declared.reading.Reading.{Reading}
 use Rattle.bp_scope.specs.Readings.{HasFailed}
+use Rattle.bp_session.specs.Reports.{HasNoVerdict}
 use Rattle.bp_session.specs.declared.stop.Stop.{Stop}
 use Rattle.bp_session.specs.declared.stop.Stop.TheVariants as stop
 use Rattle.bp_session.specs.declared.report.Ending.{Ending}
@@ -199,6 +200,7 @@ module _ {L : Type 0} (written : L → Option (List ℕ)) where
       (verdict_of c.arbiter.records ≡ Some v) × IsAllWritten l o head first c now
   IsEnded l o head first c now (Read j) =
       (is_complete c.arbiter.records ≡ false) × IsAllWritten l o head first c now
+      × HasNoVerdict l o c.arbiter.records
   IsEnded l o head first c now Write = IsFrontWritten l o head first c now
   IsEnded l o head first c now LogWrite = IsFrontWritten l o head first c now
   IsEnded l o head first c now Memory = IsFrontWritten l o head first c now

@@ -5,7 +5,7 @@ use Rattle.bp_base.specs.Worlds.{Holdings}
 use Rattle.bp_log.specs.Header.{PlainHeader}
 use Rattle.bp_log.specs.Logs.{header_text}
 use Rattle.bp_log.specs.declared.version.Version.TheVariants.{Second}
-use Rattle.bp_code.specs.Code.{text_of}
+use Rattle.bp_code.specs.Code.{code_of, text_of}
 use Rattle.bp_script.specs.Programs.{IsProgram}
 use Rattle.bp_told.specs.Order.{PrintsBehind}
 use Rattle.bp_session.specs.Reports.{EndsAs}
@@ -50,7 +50,7 @@ returns-clause-ran g c = λ before same.
       made = subst (λ (h : Option Holdings). IsLogMade written made_as log_faults h asked.log first) same.1 c.requires.made;
       story = c.run-report.ensures.story;
       heard = c.run-report.ensures.heard;
-      ends = subst (λ (p : Option (List ℕ)). EndsAs written log_faults print_faults header.options.wait (text_of program header.options) (header_text Second header) c.args.out.now c.run-report.new.out (record { printed = p; log = first }) (record { printed = after.printed; log = last }) left faults c.args.inputs.items back report.records report.end)
+      ends = subst (λ (p : Option (List ℕ)). EndsAs written log_faults print_faults (code_of program header.options) header.options (header_text Second header) c.args.out.now c.run-report.new.out (record { printed = p; log = first }) (record { printed = after.printed; log = last }) left faults c.args.inputs.items back report.records report.end)
           same.0 c.run-report.ensures.ends;
       behind = subst (λ (p : Option (List ℕ)). PrintsBehind written (text_of program header.options) (header_text Second header) report.records p after.printed first last) same.0 c.run-report.ensures.behind;
       held = subst (λ (h : Option Holdings). IsLogHeld written h asked.log last after.holds) (c.close_inputs.ensures.holds ∙ same.1) c.close_log.ensures.held;

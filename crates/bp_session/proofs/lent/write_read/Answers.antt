@@ -1,12 +1,14 @@
-use Rattle.std.proofs.Common.{◌≡◌, ◌∙◌, false, sym, ap, subst}
+use Rattle.std.proofs.Common.{◌≡◌, ◌∙◌, List, false, sym, ap, subst}
 use Rattle.bp_log.specs.Records.{is_complete}
+use Rattle.bp_log.specs.declared.record.Record.{Record}
 use Rattle.bp_floor.specs.Floors.{is_idle}
 use Rattle.bp_arbiter.specs.Arbiters.{PlainArbiter, is_over}
 use Rattle.bp_session.specs.inner.Outlets.{given_to}
 use Rattle.bp_session.specs.declared.report.Ending.{Ending}
+use Rattle.bp_session.specs.Reports.{HasNoVerdict}
 use Rattle.bp_session.specs.inner.Serving.{IsEnded}
 use Rattle.bp_session.proofs.Causes.{writes_on, ends_at}
-use Rattle.bp_session.proofs.Ends.{all_written, front_of_all, fault_ended}
+use Rattle.bp_session.proofs.Ends.{undecided, all_written, front_of_all, fault_ended}
 use Rattle.bp_session.proofs.lent.write_read.Goals as goal
 
 pub returns-in-Ok-flush-clause-ends : goal.returns-in-Ok-flush-clause-ends
@@ -16,7 +18,10 @@ returns-in-Ok-flush-clause-ends g c l o head first s =
     let new = given_to g.K.Sink c.flush.new.self in
     let open_still : is_complete c.tell.new.core.arbiter.records ≡ false =
     ap is_complete c.tell.ensures.run.records ∙ ap (λ (a : PlainArbiter). is_complete a.records) (sym c.arbiter.ensures) ∙ c.keeps.ensures.complete ∙ ap (λ (a : PlainArbiter). is_over a.phase) c.arbiter.ensures ∙ ap is_over c.requires.rest in
-    (open_still, all_written g.L.Sink.written l o head first c.tell.new.core mid new c.tell.new.telling c.flush.new.telling c.in-Ok-flush.ensures.all told)
+    let no_verdict : HasNoVerdict l o c.tell.new.core.arbiter.records =
+    subst (λ (rs : List Record). HasNoVerdict l o rs) (sym c.tell.ensures.run.records)
+    (undecided g.L.Sink.written l o head first c.args.core.now (given_to g.K.Sink c.args.outlets.now) c.args.telling.now s c.requires.rest) in
+    (open_still, all_written g.L.Sink.written l o head first c.tell.new.core mid new c.tell.new.telling c.flush.new.telling c.in-Ok-flush.ensures.all told, no_verdict)
 
 pub returns-in-Err-flush-clause-ends : goal.returns-in-Err-flush-clause-ends
 returns-in-Err-flush-clause-ends g c l o head first s =

@@ -8,17 +8,35 @@ use Rattle.bp_scope.proofs.Readings.{pairs_many}
 use Rattle.bp_session.specs.inner.Serving.{WritesRun, StopsTurning, StopsServing}
 use Rattle.bp_session.proofs.Served.{ready_on}
 use Rattle.bp_session.proofs.Hears.{heard_kept, go_none, go_both}
-use Rattle.bp_session.proofs.Causes.{writes_none, writes_on, stops_at}
+use Rattle.bp_session.proofs.Causes.{writes_on, stops_at}
+use Rattle.bp_session.proofs.Tells.{write_still}
 use Rattle.bp_session.proofs.Rounds.{from_err, rest_of, serves_none, serves_both, serves_still, tells_then, writes_run, breaks_then, stops_then, turn_stops_then, on_err, untold_kept}
 use Rattle.bp_session.proofs.serving.serve_on.Goals as goal
 
+pub returns-in_err-write-clause-stops : goal.returns-in_err-write-clause-stops
+returns-in_err-write-clause-stops g c =
+    let first = given_to g.K.Sink c.args.outlets.now in
+    let wrote = given_to g.K.Sink c.write.new.outlets in
+    from_err _ _ (StopsServing g.L.Sink.written c.args.core.now first c.args.telling.now c.args.core.now wrote c.write.new.telling c.args.readings.now.items) c.from_residual.ensures.1
+    (turn_stops_then g.L.Sink.written c.args.readings.now.items c.args.core.now c.args.core.now first first wrote c.args.telling.now c.args.telling.now c.write.new.telling _
+    (serves_none g.L.Sink.written c.args.core.now first c.args.telling.now) c.in_err-write.ensures.stops)
+
+pub returns-in_err-write-clause-writes : goal.returns-in_err-write-clause-writes
+returns-in_err-write-clause-writes g c = stops_at _ _ c.from_residual.ensures.1 c.in_err-write.ensures.writes
+
+pub returns-in_err-write-clause-hears : goal.returns-in_err-write-clause-hears
+returns-in_err-write-clause-hears g c = record { heard = c.requires.can.heard; goes_on = go_none g.S.Source.left g.S.Source.faults c.args.readings.now.items }
+
 pub loop-init : goal.loop-init
 loop-init g c =
+    let first = given_to g.K.Sink c.args.outlets.now in
+    let wrote = given_to g.K.Sink c.write.new.outlets in
     record {
-      serves = serves_none g.L.Sink.written c.args.core.now (given_to g.K.Sink c.args.outlets.now) c.args.telling.now;
+      serves = serves_still g.L.Sink.written c.args.core.now c.args.core.now first first wrote c.args.telling.now c.args.telling.now c.write.new.telling
+          (serves_none g.L.Sink.written c.args.core.now first c.args.telling.now) (write_still g.L.Sink.written first wrote c.args.telling.now c.write.new.telling c.in_ok-write.ensures.all);
       inside = c.requires.can.inside;
       hears = record { heard = c.requires.can.heard; goes_on = go_none g.S.Source.left g.S.Source.faults c.args.readings.now.items };
-      writes = writes_none c.args.outlets.now;
+      writes = c.in_ok-write.ensures.writes;
     }
 
 pub settle_and_tell-requires-clause-ready : goal.settle_and_tell-requires-clause-ready
@@ -27,11 +45,11 @@ settle_and_tell-requires-clause-ready g c =
 
 pub returns-in_err-settle_and_tell-clause-stops : goal.returns-in_err-settle_and_tell-clause-stops
 returns-in_err-settle_and_tell-clause-stops g c =
-    from_err _ _ _ c.from_residual.ensures.1 (breaks_then c.loop.invariant.serves c.in_err-settle_and_tell.ensures.breaks)
+    from_err _ _ _ c.from_residual-in_err-settle_and_tell.ensures.1 (breaks_then c.loop.invariant.serves c.in_err-settle_and_tell.ensures.breaks)
 
 pub returns-in_err-settle_and_tell-clause-writes : goal.returns-in_err-settle_and_tell-clause-writes
 returns-in_err-settle_and_tell-clause-writes g c =
-    stops_at _ _ c.from_residual.ensures.1 (writes_on c.loop.invariant.writes c.in_err-settle_and_tell.ensures.writes)
+    stops_at _ _ c.from_residual-in_err-settle_and_tell.ensures.1 (writes_on c.loop.invariant.writes c.in_err-settle_and_tell.ensures.writes)
 
 pub verdict_shown-requires-clause-over : goal.verdict_shown-requires-clause-over
 verdict_shown-requires-clause-over g c =

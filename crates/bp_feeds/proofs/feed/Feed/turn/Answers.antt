@@ -7,7 +7,7 @@ pub returns-in-Some-2-clause-goes_on : goal.returns-in-Some-2-clause-goes_on
 returns-in-Some-2-clause-goes_on g c =
     let none : c.args.self.now.kept ≡ None = search rules in
     goes_item g.S.Source.left g.S.Source.faults c.args.self.now c.hand_over-in-Some-2.new.self c.next.new.self c.in-Some-2.item c.in_ok-item.field-0 c.hand_over-in-Some-2.ensures.lane none
-    c.hand_over-in-Some-2.ensures.given c.hand_over-in-Some-2.ensures.lines c.in-Some-2.is c.in_ok-item.ensures.reads c.in_ok-item.ensures.cause c.in_ok-item.ensures.counts
+    c.hand_over-in-Some-2.ensures.given c.hand_over-in-Some-2.ensures.lines c.in-Some-2.is c.in_ok-item.ensures.reads c.in_ok-item.ensures.cause c.in_ok-item.ensures.told c.in_ok-item.ensures.counts
 
 pub returns-in-Some-2-clause-one : goal.returns-in-Some-2-clause-one
 returns-in-Some-2-clause-one g c =
@@ -26,4 +26,4 @@ returns-in_err-item-clause-goes_on g c =
     let lane : IsSameMouth c.args.self.now.mouth c.args.self.now.mouth = search rules in
     goes_more g.S.Source.left g.S.Source.faults c.args.self.now _ [] lane
     (ap (λ k. offered c.args.self.now.mouth ++ option_to_list k) kept ∙ sym (append-nil (offered c.args.self.now.mouth ++ option_to_list c.args.self.now.kept)))
-    (reads_same _ _ c.in_err-item.ensures.memory) (λ h. cc) c.in_err-item.ensures.counts
+    (reads_same _ _ c.in_err-item.ensures.memory) (λ h. cc) (λ h. c.in_err-item.ensures.spares) c.in_err-item.ensures.counts

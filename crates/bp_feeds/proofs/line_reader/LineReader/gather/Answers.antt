@@ -1,8 +1,8 @@
-use Rattle.std.proofs.Common.{rules, ◌≡◌, ◌++◌, [], refl, sym, ap, ◌∙◌}
+use Rattle.std.proofs.Common.{rules, ◌≡◌, ◌++◌, [], refl, sym, ap, ◌∙◌, arith}
 use Rattle.std.proofs.lemmas.List.{nil_from_length}
 use Rattle.bp_feeds.specs.Reading.{IsSameReading}
 use Rattle.bp_feeds.specs.Feeds.{reading_of}
-use Rattle.bp_feeds.proofs.Within.{same_held, filled_last}
+use Rattle.bp_feeds.proofs.Within.{same_held, no_line, filled_last}
 use Rattle.bp_feeds.proofs.line_reader.LineReader.gather.Goals as goal
 
 pub returns-in-Ok-eq0-clause-last : goal.returns-in-Ok-eq0-clause-last
@@ -16,5 +16,6 @@ returns-in-Ok-eq0-clause-last g c = λ _.
     (ap g.S.Source.left c.move_front.ensures.source) in (
       none,
       filled_last _ moved _ c.move_front.new.self.line.items c.fill.new.self same (ap (λ b. c.move_front.new.self.line.items ++ b) (sym part)) refl refl refl
-          c.in-Ok-eq0.ensures.given none (c.in-Ok-eq0.ensures.end zero),
+          c.in-Ok-eq0.ensures.given (no_line c.move_front.new.self.line.items c.move_front.new.self.block c.move_front.new.self.unbroken (omega (arith, c.move_front.new.self.short)) part)
+          c.fill.ensures.most none (c.in-Ok-eq0.ensures.end zero),
     )

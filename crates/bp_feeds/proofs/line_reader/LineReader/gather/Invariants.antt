@@ -1,4 +1,4 @@
-use Rattle.std.proofs.Common.{◌≡◌, ◌≤◌, ◌+◌, ◌-◌, ◌*◌, true, vec_len, length}
+use Rattle.std.proofs.Common.{◌≡◌, ◌+◌, ◌-◌, ◌*◌, true, vec_len, length}
 use Rattle.bp_feeds.specs.declared.limits.TheConstants.{MOST_LENGTH}
 use Rattle.bp_feeds.specs.Items.{has_line}
 use Rattle.bp_feeds.specs.Reading.{IsSameReading}
@@ -8,7 +8,7 @@ use Rattle.bp_feeds.proofs.line_reader.LineReader.gather.Given as goal
 abbrev pub invariant-loop-self : goal.invariant-loop-self
 invariant-loop-self g l = record {
   same : IsSameReading (reading_of g.S.Source.left l.fn.self) (reading_of g.S.Source.left l.self);
-  counts : g.S.Source.faults l.fn.self.source ≤ g.S.Source.faults l.self.source;
+  faults : g.S.Source.faults l.self.source ≡ g.S.Source.faults l.fn.self.source;
   asks : has_line (held l.fn.self) ≡ true → (l.self.source ≡ l.fn.self.source) × (held l.self ≡ held l.fn.self);
 }
 

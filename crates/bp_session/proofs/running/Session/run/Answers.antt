@@ -100,7 +100,7 @@ returns-clause-ends g c =
     let end = c.served.new.parts.end in
     let inputs = c.args.inputs.items in
     let back = c.served.new.parts.back.items in
-    subst (λ (rs : List Record). EndsAs g.L.Sink.written g.L.Sink.faults g.K.Sink.faults o.wait (text (code_of program o) o) (header_text Second h) c.args.out.now c.served.new.out first now g.S.Source.left g.S.Source.faults inputs back rs end)
+    subst (λ (rs : List Record). EndsAs g.L.Sink.written g.L.Sink.faults g.K.Sink.faults (code_of program o) o (header_text Second h) c.args.out.now c.served.new.out first now g.S.Source.left g.S.Source.faults inputs back rs end)
     (sym c.into_records.ensures)
     (ends_as _ _ _ _ _ _ _ g.L.Sink g.K.Sink c.args.out.now c.served.new.out g.S.Source.left g.S.Source.faults inputs back c.served.ensures.back c.requires end ended c.served.ensures.writes.cause c.served.ensures.broke)
 

@@ -1,0 +1,4 @@
+pub mod Kept
+pub mod Bringing
+pub mod Completing
+mod Rows
