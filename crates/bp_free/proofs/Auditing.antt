@@ -1,5 +1,5 @@
 -- How far a trace was read, and what can be answered there.
-use Rattle.std.proofs.Common.{◌≡◌, ◌⊎◌, inl, inr, ℕ, ◌+◌, ◌-◌, ◌^◌, min, Bool, true, false, List, [], ◌∷◌, ◌++◌, length, Option, Some, None, Ok, nat_lt, if◌then◌else◌, refl, sym, ap, ◌∙◌, subst, arith, append_assoc, append-nil, length-append}
+use Rattle.std.proofs.Common.{◌≡◌, ◌⊎◌, inl, inr, ℕ, ◌+◌, ◌-◌, ◌^◌, min, List, [], ◌∷◌, ◌++◌, length, Some, if◌then◌else◌, refl, sym, ap, ◌∙◌, subst, arith, append_assoc, append-nil, length-append}
 use Rattle.std.proofs.lemmas.Option.{same_Some}
 use Rattle.std.proofs.lemmas.List.{append_cancel_left}
 use Rattle.js_data.specs.Event.{PlainEvent}
@@ -11,20 +11,17 @@ use Rattle.bp_log.specs.declared.verdict.Verdict.{Verdict}
 use Rattle.bp_run.specs.Bodies.{Code}
 use Rattle.bp_run.specs.Configuration.{Stand}
 use Rattle.bp_run.specs.Settling.{settle, opening}
-use Rattle.bp_log.specs.declared.limits.TheConstants.{MOST_WEIGHT}
 use Rattle.bp_log.specs.declared.verdict.Verdict.TheVariants as verdict
-use Rattle.bp_run.specs.Selecting.{Asked, live}
-use Rattle.bp_run.specs.Choosing.{Touched, reach}
-use Rattle.bp_run.specs.Story.{line_of_choice, stepped, weight_after}
+use Rattle.bp_run.specs.Story.{line_of_choice}
 use Rattle.bp_run.proofs.Growing.{grown_settle}
 use Rattle.bp_reading.proofs.Lines.{cut_same}
 use Rattle.bp_free.specs.declared.answer.Reason.{Reason}
-use Rattle.bp_free.specs.Free.{IsFreeEnd, free, free_from, stop_at_reach}
-use Rattle.bp_free.specs.Nexts.{MayBeNext, MayCome}
+use Rattle.bp_free.specs.Free.{IsFreeEnd, free, free_from}
+use Rattle.bp_free.specs.Nexts.{MayBeNext}
 use Rattle.bp_free.specs.Traces.{FreeRun, IsTrace, free_text}
 use Rattle.bp_free.specs.Wrong.{IsFirstWrong, IsRight}
 use Rattle.bp_free.specs.Reasons.{line_in, reason_behind, reason_of}
-use Rattle.bp_free.specs.Audits.{IsNoTrace, IsPast}
+use Rattle.bp_free.specs.Audits.{IsNoTrace}
 use Rattle.bp_free.specs.Reads.{Only, IsRead}
 use Rattle.bp_free.proofs.Lines.{lacks_line}
 use Rattle.bp_free.proofs.Further.{Comes, goes_on, adds, free_then, first_of, none_of}
@@ -153,10 +150,6 @@ module _ {O S : Type 0} (l : Code O S) (o : PlainOptions) (bytes : List ℕ) whe
   unfolding free
   many es s h = let k = many_from es (settle l opening) s h in let z = (grown_settle l opening).transitions in omega (arith, k, z)
 
-  -- the free run that ends here
-  whole_of : (es : List PlainEvent) (s : Stand O) (v : Verdict) → free l o es ≡ Some s → IsFreeEnd l o s v → FreeRun l o
-  whole_of es s v h e = record { events = es; stand = s; verdict = v; leads = h; ends = e }
-
   text_here : (es : List PlainEvent) (s : Stand O) (v : Verdict) (said : List Line) (rest left : List ℕ) → IsRead l o bytes es s said [] rest → rest ≡ line_text (trace.Verdict v) ++ 10 ∷ left →
       bytes ≡ (lines_text s.lines ++ whole_line (trace.Verdict v)) ++ left
   text_here es s v said rest left r h =
@@ -261,13 +254,3 @@ module _ {O S : Type 0} (l : Code O S) (o : PlainOptions) (bytes : List ℕ) whe
       ((more : List ℕ) → rest ≡ line_text d ++ 10 ∷ more → ⊥) → why ≡ reason_of l o s (d ∷ later) (line_in rest) → n ≡ min (length said + 1) (2 ^ 32 - 1) → IsNoTrace l o bytes n why
   refused_ahead es s said d later rest n why r none because told =
       refused es s said (d ∷ later) rest n why r (λ x more m e. none more (e ∙ ap (λ (y : Line). line_text y ++ 10 ∷ more) m)) because told
-
-  -- what may come comes
-  pub may_come : (s : Stand O) (e : PlainEvent) (place : Option ℕ) (xs : List Touched) → MayCome l o s e place → reach l.has e (live l s) ≡ Ok xs → Comes l o e s (settle l (stepped l s e place xs))
-  may_come s e place xs m r =
-      let free : stop_at_reach s e (Ok xs) ≡ None = subst (λ (y : Asked (List Touched)). stop_at_reach s e y ≡ None) r m.free in
-      record { enabled = m.enabled; goes = m.goes; place = place; placed = m.placed; reached = xs; reach_is = r; light = is_light (nat_lt MOST_WEIGHT (weight_after s e xs)) refl free; leads = refl }
-    where
-      is_light : (b : Bool) → nat_lt MOST_WEIGHT (weight_after s e xs) ≡ b → (if b then Some verdict.Weight else None) ≡ None → b ≡ false
-      is_light true q h = absurd (cc)
-      is_light false q h = refl

@@ -7,4 +7,5 @@ pub mod Blockers
 pub mod Runs
 pub mod Alike
 pub mod Auditing
+pub mod Unique
 pub mod Rows

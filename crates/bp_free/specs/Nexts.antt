@@ -11,7 +11,7 @@ use Rattle.bp_run.specs.Configuration.{Stand}
 use Rattle.bp_run.specs.Selecting.{Enabled}
 use Rattle.bp_run.specs.Story.{line_of_choice}
 use Rattle.bp_free.specs.Due.{Goes, due}
-use Rattle.bp_free.specs.Free.{place_in, stop_of, IsFreeEnd}
+use Rattle.bp_free.specs.Free.{place_in, stop_of, free, IsFreeEnd}
 
 -- this event may come, from this place, and does not stop the run
 pub record MayCome {Origin Set : Type 0} (l : Code Origin Set) (o : PlainOptions) (s : Stand Origin)
@@ -42,3 +42,9 @@ MayBeNext l o s d = EventNext l o s d ⊎ VerdictNext l o s d
 pub record AreReal (x : Enabled) (queue : List PlainEvent) : Type 0 where
   pub inner : All IsEvent x.inner
   pub outer : (i : ℕ) (e : PlainEvent) → x.outer ≡ Some i → slice_get queue i ≡ Some e → IsEvent e
+
+-- wherever a free run stands, what can be selected are events that a program can name
+abbrev pub SelectsReal : {Origin Set : Type 0} → Code Origin Set → PlainOptions → Type 0
+SelectsReal {Origin} l o =
+    (events : List PlainEvent) (s : Stand Origin) (x : Enabled) →
+    free l o events ≡ Some s → due l o s ≡ Goes x → AreReal x s.queue

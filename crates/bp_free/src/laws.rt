@@ -10,10 +10,13 @@ ghost use Rattle.bp_log.specs.declared.record.Record.{Record};
 ghost use Rattle.bp_run.specs.Configuration.{Stand};
 ghost use Rattle.bp_run.specs.Selecting.{Enabled, live, requested, blocker};
 ghost use Rattle.bp_code.specs.Code.{code_of, text_of};
+ghost use Rattle.bp_free.specs.declared.answer.Answer.{Answer as PlainAnswer};
 ghost use Rattle.bp_free.specs.Due as after;
 ghost use Rattle.bp_free.specs.Due.{due};
 ghost use Rattle.bp_free.specs.Free.{free};
+ghost use Rattle.bp_free.specs.Nexts.{SelectsReal};
 ghost use Rattle.bp_free.specs.Traces.{FreeRun, IsTrace};
+ghost use Rattle.bp_free.specs.Audits.{IsAudit};
 
 /// What is printed of a run without injectors is a trace, of as many events as it has records before
 /// that of its end, whatever its strategy and its seed.
@@ -21,6 +24,15 @@ pub fn each_run_is_a_trace()
     ensures { (p : PlainProgram) (o : PlainOptions) (records : List Record) (bytes : List ℕ) (n : ℕ) →
         o.injectors ≡ 0 → Complete records → length records ≡ n + 1 →
         text_of p o records ≡ Some bytes → IsTrace (code_of p o) o bytes n }
+{}
+
+/// There is one answer about each trace, where what can be selected are events that a program can
+/// name: that it is no trace, and the line and the reason, follow from the bytes, and so does the
+/// number of events of a trace.
+pub fn one_answer()
+    ensures { (p : PlainProgram) (o : PlainOptions) (bytes : List ℕ) (a b : PlainAnswer) →
+        SelectsReal (code_of p o) o → IsAudit (code_of p o) o bytes a →
+        IsAudit (code_of p o) o bytes b → a ≡ b }
 {}
 
 /// Each free run goes on to an end.
