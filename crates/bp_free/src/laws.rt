@@ -18,17 +18,18 @@ ghost use Rattle.bp_free.specs.Nexts.{SelectsReal};
 ghost use Rattle.bp_free.specs.Traces.{FreeRun, IsTrace};
 ghost use Rattle.bp_free.specs.Audits.{IsAudit};
 
-/// What is printed of a run without injectors is a trace, of as many events as it has records before
-/// that of its end, whatever its strategy and its seed.
+/// What is printed of a run without injectors is a trace, of as many events as it has records
+/// before that of its end, whatever its strategy and its seed.
 pub fn each_run_is_a_trace()
-    ensures { (p : PlainProgram) (o : PlainOptions) (records : List Record) (bytes : List ℕ) (n : ℕ) →
+    ensures { (p : PlainProgram) (o : PlainOptions) (records : List Record) (bytes : List ℕ)
+        (n : ℕ) →
         o.injectors ≡ 0 → Complete records → length records ≡ n + 1 →
         text_of p o records ≡ Some bytes → IsTrace (code_of p o) o bytes n }
 {}
 
 /// There is one answer about each trace, where what can be selected are events that a program can
-/// name: that it is no trace, and the line and the reason, follow from the bytes, and so does the
-/// number of events of a trace.
+/// name: the bytes tell whether they are a trace, and of how many events, and else which line is
+/// the first wrong one, and why.
 pub fn one_answer()
     ensures { (p : PlainProgram) (o : PlainOptions) (bytes : List ℕ) (a b : PlainAnswer) →
         SelectsReal (code_of p o) o → IsAudit (code_of p o) o bytes a →
@@ -45,7 +46,8 @@ pub fn each_free_run_ends()
 /// Where events can be selected, one that is requested and not among them has a first b-thread that
 /// blocks it.
 pub fn what_is_requested_and_not_enabled_is_blocked()
-    ensures { (p : PlainProgram) (o : PlainOptions) (s : Stand Origin) (x : Enabled) (e : PlainEvent) →
+    ensures { (p : PlainProgram) (o : PlainOptions) (s : Stand Origin) (x : Enabled)
+        (e : PlainEvent) →
         due (code_of p o) o s ≡ after.Goes x → requested (live (code_of p o) s) e ≡ true →
         list_any (same_event e) x.inner ≡ false →
         (n : ℕ) × (blocker (code_of p o).has (live (code_of p o) s) e ≡ Ok (Some n)) }
