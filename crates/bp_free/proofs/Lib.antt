@@ -1,0 +1,11 @@
+pub mod Lines
+pub mod Further
+pub mod Open
+pub mod Reading
+pub mod Choosing
+pub mod Blockers
+pub mod Runs
+pub mod Alike
+pub mod Auditing
+pub mod Unique
+pub mod Rows
