@@ -24,11 +24,11 @@ use Rattle.bp_run.proofs.Stories.{text_prefix}
 use Rattle.bp_code.specs.Code.{code_of, text_of}
 use Rattle.bp_complete.specs.Completions.{AreBrought, MergesBrought}
 use Rattle.bp_complete.proofs.Completing.{completes}
-use Rattle.bp_hear.specs.Merges.{Merge}
 use Rattle.bp_args.specs.declared.command.Run.{Run}
 use Rattle.bp_cli.specs.Outside.{Outside, IsUnder}
 use Rattle.bp_cli.specs.Injected.{AreUnder}
 use Rattle.bp_cli.specs.Runs.{IsBeginning}
+use Rattle.bp_session.specs.Merges.{Merge}
 
 -- ---- what bytes bring
 

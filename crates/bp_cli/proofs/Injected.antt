@@ -11,8 +11,8 @@ use Rattle.bp_log.specs.declared.verdict.Verdict.TheVariants.{Quiet}
 use Rattle.bp_feeds.specs.Items.{items}
 use Rattle.bp_feeds.specs.Reading.{IsAll}
 use Rattle.bp_steps.specs.Merging.{items_by}
-use Rattle.bp_hear.specs.Heard.{EachHeard, EachHeardWhole}
-use Rattle.bp_hear.specs.Merges.{Merge}
+use Rattle.bp_session.specs.Heard.{EachHeard, EachHeardWhole}
+use Rattle.bp_session.specs.Merges.{Merge}
 use Rattle.bp_session.specs.Reports.{BrokeAt}
 use Rattle.bp_log.specs.Verdicts.{IsQuiet}
 use Rattle.bp_cli.specs.Injected.{AreUnder, MergeWhole, BreaksIn}

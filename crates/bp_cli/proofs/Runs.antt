@@ -24,7 +24,7 @@ use Rattle.bp_script.specs.Programs.{IsProgram}
 use Rattle.bp_told.specs.Logging.{LogGets, LogGetsFront, LogFails, LogStays}
 use Rattle.bp_told.specs.Order.{PrintsBehind}
 use Rattle.bp_told.proofs.Logging.{log_is}
-use Rattle.bp_hear.specs.Heard.{EachHeard}
+use Rattle.bp_session.specs.Heard.{EachHeard}
 use Rattle.bp_session.specs.Reports.{EndsAs, Wholly, Partly, BrokeAt}
 use Rattle.bp_log.specs.Verdicts.{IsQuiet}
 use Rattle.bp_session.specs.declared.report.Ending.{Ending}

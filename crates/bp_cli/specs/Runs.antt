@@ -15,9 +15,9 @@ use Rattle.bp_log.specs.declared.record.Record.{Record}
 use Rattle.bp_log.specs.declared.verdict.Verdict.{Verdict}
 use Rattle.bp_code.specs.Code.{code_of, text_of, records_alone}
 use Rattle.bp_script.specs.Programs.{IsProgram}
-use Rattle.bp_hear.specs.Merges.{Merge}
 use Rattle.bp_log.specs.Verdicts.{IsQuiet}
 use Rattle.bp_args.specs.declared.command.Run.{Run}
+use Rattle.bp_session.specs.Merges.{Merge}
 use Rattle.bp_session.specs.Reports.{HasNoVerdict}
 use Rattle.bp_replay.specs.Laws.{Retells}
 use Rattle.bp_cli.specs.declared.conclusion.Conclusion.{Conclusion}

@@ -8,7 +8,7 @@ use Rattle.bp_told.specs.Logging.{LogFails, LogStays}
 use Rattle.bp_told.specs.declared.fault.RunFault.{RunFault}
 use Rattle.bp_told.specs.declared.fault.RunFault.TheVariants.{Write, LogWrite, Memory}
 use Rattle.bp_told.proofs.Logging.{log_same, stays_on}
-use Rattle.bp_scope.specs.declared.reading.Reading.{Reading}
+use Rattle.bp_session.specs.declared.reading.Reading.{Reading}
 use Rattle.bp_session.specs.inner.Hearing.{StopsHearing}
 use Rattle.bp_session.specs.inner.Outlets.{told_fault, stop_fault, served_fault, ended_fault, IsCaused, WritesTo}
 use Rattle.bp_session.specs.inner.Serving.{ending_of}

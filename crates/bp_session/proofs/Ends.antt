@@ -17,12 +17,12 @@ use Rattle.bp_floor.specs.declared.phase.Phase.TheVariants.{Rest}
 use Rattle.bp_arbiter.specs.Arbiters.{code_in, options_in}
 use Rattle.bp_core.specs.declared.stepping.Core.{Core}
 use Rattle.bp_core.proofs.Leads.{is_at_rest, told_is}
-use Rattle.bp_scope.specs.declared.reading.Reading.{Reading}
-use Rattle.bp_scope.specs.Readings.{HasFailed}
 use Rattle.bp_told.specs.Told.{Given, Waiting, WritesAll, WritesPart}
 use Rattle.bp_told.specs.declared.fault.RunFault.{RunFault}
 use Rattle.bp_told.specs.declared.fault.RunFault.TheVariants.{Write, LogWrite, Memory}
 use Rattle.bp_told.proofs.Told.{told_broken, broken_part}
+use Rattle.bp_session.specs.declared.reading.Reading.{Reading}
+use Rattle.bp_session.specs.inner.Readings.{HasFailed}
 use Rattle.bp_session.specs.declared.stop.Stop.{Stop}
 use Rattle.bp_session.specs.declared.stop.Stop.TheVariants as stop
 use Rattle.bp_session.specs.Reports.{HasNoVerdict}

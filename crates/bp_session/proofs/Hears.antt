@@ -31,12 +31,11 @@ use Rattle.bp_core.specs.declared.stepping.Core.{Core}
 use Rattle.bp_core.specs.Cores.{IsCoreAt, played_on}
 use Rattle.bp_turns.specs.Settled.{IsHere, IsSomewhereHere}
 use Rattle.bp_turns.proofs.Arbiters.{same_code}
-use Rattle.bp_hear.specs.declared.hearing.Hearing.{Hearing}
-use Rattle.bp_hear.specs.declared.hearing.TheConstants.{MOST_HEARD}
-use Rattle.bp_hear.specs.Hearings.{AreHeard, IsRecorded, Hears, IsHeardOut, entering, records_by}
-use Rattle.bp_scope.specs.Readings.{Pairs, GoesOnAs}
-use Rattle.bp_scope.specs.declared.reading.Reading.{Reading}
-use Rattle.bp_session.specs.inner.Hearing.{HearsOn, WasHeard, WereHeard, AreHeardOut, AreAsHeard}
+use Rattle.bp_session.specs.declared.hearing.Hearing.{Hearing}
+use Rattle.bp_session.specs.declared.hearing.TheConstants.{MOST_HEARD}
+use Rattle.bp_session.specs.inner.Readings.{Pairs, GoesOnAs}
+use Rattle.bp_session.specs.declared.reading.Reading.{Reading}
+use Rattle.bp_session.specs.inner.Hearing.{AreHeard, IsRecorded, Hears, IsHeardOut, entering, records_by, HearsOn, WasHeard, WereHeard, AreHeardOut, AreAsHeard}
 use Rattle.bp_session.specs.inner.Serving.{LeadsOn, KeepsItems, StaysThere}
 use Rattle.bp_session.proofs.Tells.{here_idle}
 use Rattle.bp_session.proofs.Each.{EachTo, each_map, each_next}

@@ -1,3 +1,8 @@
+pub mod Faultless
+pub mod Back
+pub mod Enters
+mod Rows
+pub mod Readings
 pub mod Served
 pub mod Picked
 pub mod Waits

@@ -33,15 +33,15 @@ use Rattle.bp_run.proofs.Stories.{text_prefix}
 use Rattle.bp_feeds.specs.Items.{is_end, has_end, items}
 use Rattle.bp_feeds.specs.Reading.{IsAll}
 use Rattle.bp_steps.specs.Merging.{item_by, items_by}
-use Rattle.bp_hear.specs.Heard.{EachHeard, EachHeardWhole}
-use Rattle.bp_hear.proofs.Back.{heard_back, heard_whole, heard_to_fault, sound_whole}
-use Rattle.bp_scope.specs.Readings.{AreBack, HasBroken}
 use Rattle.bp_core.specs.declared.stepping.Core.{Core}
 use Rattle.bp_told.specs.Order.{PrintsBehind}
 use Rattle.bp_told.specs.Told.{Given, Waiting, ComesOf, given}
 use Rattle.bp_told.proofs.Logging.{log_front_longer, log_nothing}
 use Rattle.bp_told.proofs.Order.{behind_longer}
 use Rattle.bp_told.proofs.Pieces.{appends_nothing, longer_front, records_text-append}
+use Rattle.bp_session.specs.Heard.{EachHeard, EachHeardWhole}
+use Rattle.bp_session.proofs.Back.{heard_back, heard_whole, heard_to_fault, sound_whole}
+use Rattle.bp_session.specs.inner.Readings.{AreBack, HasBroken}
 use Rattle.bp_session.specs.declared.report.Ending.{Ending}
 use Rattle.bp_session.specs.declared.report.Ending.TheVariants as ending
 use Rattle.bp_session.specs.inner.Lending.{Begins}

@@ -18,11 +18,10 @@ use Rattle.bp_told.specs.Told.{Given, Waiting, IsTold, WritesAll}
 use Rattle.bp_told.specs.declared.fault.RunFault.{RunFault}
 use Rattle.bp_told.specs.declared.fault.RunFault.TheVariants.{Memory}
 use Rattle.bp_turns.specs.Settled.{IsSettled, IsSomewhereHere}
-use Rattle.bp_hear.specs.Hearings.{AreHeard}
-use Rattle.bp_scope.specs.declared.reading.Reading.{Reading}
+use Rattle.bp_session.specs.declared.reading.Reading.{Reading}
 use Rattle.bp_session.specs.declared.stop.Stop.{Stop}
 use Rattle.bp_session.specs.declared.stop.Stop.TheVariants as stop
-use Rattle.bp_session.specs.inner.Hearing.{HearsOn, StopsHearing}
+use Rattle.bp_session.specs.inner.Hearing.{AreHeard, HearsOn, StopsHearing}
 use Rattle.bp_session.specs.inner.Serving.{IsReady, TellsAll, WritesRun, ServesOn, BreaksServing, StillTold, IsToldStill, StopsTurning, StopsServing, LeadsOn, CutsAt, KeepsItems, NothingUntold, StaysThere}
 use Rattle.bp_session.proofs.Served.{serving_on, cut_off, stop_here, some_text, here_tells, ready_somewhere, ready_on}
 use Rattle.bp_session.proofs.Hears.{heard_kept, no_longer}

@@ -16,9 +16,9 @@ use Rattle.bp_inject.specs.declared.started.Started.{Started}
 use Rattle.bp_inject.specs.declared.started.Started.TheVariants as started
 use Rattle.bp_inject.specs.Injectors.{IsTied, IsFrom, feed_of, is_running}
 use Rattle.bp_inject.proofs.Joined.{from_on}
-use Rattle.bp_hear.specs.declared.hearing.Hearing.{Hearing}
-use Rattle.bp_scope.specs.declared.reading.Reading.{Reading}
-use Rattle.bp_scope.specs.Readings.{GoesOnAs}
+use Rattle.bp_session.specs.declared.hearing.Hearing.{Hearing}
+use Rattle.bp_session.specs.declared.reading.Reading.{Reading}
+use Rattle.bp_session.specs.inner.Readings.{GoesOnAs}
 use Rattle.bp_session.specs.inner.Hearing.{AreAsHeard}
 use Rattle.bp_session.specs.inner.Turning.{turns_here, IsTurn, MakesTurn, MakeTurns}
 use Rattle.bp_session.proofs.Hears.{goes_none}

@@ -1,2 +1,4 @@
+pub mod Merges
+pub mod Heard
 pub mod Reports
 pub mod inner

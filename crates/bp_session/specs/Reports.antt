@@ -17,7 +17,7 @@ use Rattle.bp_steps.specs.Merging.{items_by}
 use Rattle.bp_told.specs.Logging.{LogGets, LogGetsFront, LogFails}
 use Rattle.bp_told.specs.Order.{Texts}
 use Rattle.bp_told.specs.Told.{Given}
-use Rattle.bp_hear.specs.Heard.{IsHeardToFault, EachHeardWhole}
+use Rattle.bp_session.specs.Heard.{IsHeardToFault, EachHeardWhole}
 use Rattle.bp_session.specs.declared.report.Ending.{Ending}
 use Rattle.bp_session.specs.declared.report.Ending.TheVariants.{Verdict, Read, Write, LogWrite, Memory}
 

@@ -4,10 +4,10 @@ ghost use Rattle.std.specs.List.{list_any};
 ghost use Rattle.bp_session.specs.inner.Hearing.{AreHeardOut};
 ghost use Rattle.bp_session.specs.inner.Turning.{turns_here, IsWaiting};
 
+use crate::reading::Reading;
 use crate::written::Written;
 use bp_base::Source;
 use bp_lanes::{Bell, ROOM, Rope, Wake};
-use bp_scope::Reading;
 use std::sync::Wait;
 use std::thread::Threads;
 

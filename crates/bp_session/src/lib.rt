@@ -4,11 +4,15 @@
 
 mod calling;
 mod hearing;
+mod laws;
 mod lent;
 mod outlets;
 mod pacing;
+mod places;
+mod reading;
 mod report;
 mod running;
+mod scoped;
 mod serving;
 mod showing;
 mod stop;
@@ -16,5 +20,6 @@ mod telling;
 mod turning;
 mod written;
 
+pub use laws::what_was_recorded_was_heard;
 pub use report::{Ending, Report};
 pub use running::Session;

@@ -10,9 +10,9 @@ ghost use Rattle.bp_code.specs.Nodes.{nodes_of};
 ghost use Rattle.bp_told.specs.Logging.{LogStays};
 ghost use Rattle.bp_told.specs.Order.{PrintsBehind};
 ghost use Rattle.bp_told.specs.Told.{given};
-ghost use Rattle.bp_hear.specs.Heard.{EachHeard};
-ghost use Rattle.bp_scope.specs.Places.{HasRoom};
-ghost use Rattle.bp_scope.specs.Readings.{AreBack, HasBroken};
+ghost use Rattle.bp_session.specs.Heard.{EachHeard};
+ghost use Rattle.bp_session.specs.inner.Places.{HasRoom};
+ghost use Rattle.bp_session.specs.inner.Readings.{AreBack, HasBroken};
 ghost use Rattle.bp_session.specs.inner.Lending.{Begins};
 ghost use Rattle.bp_session.specs.Reports.{ComeBack, EndsAs};
 ghost use Rattle.bp_session.specs.inner.Outlets.{ended_fault, WritesOn};
@@ -20,13 +20,14 @@ ghost use Rattle.bp_session.specs.inner.Serving.{IsReady, EndsServing, broke_at}
 
 use crate::lent::{Lent, Parts, serve_alone};
 use crate::pacing::Pace;
+use crate::places::Places;
 use crate::report::{Ending, Report};
+use crate::scoped::in_scope;
 use crate::showing::{Shows, Silent};
 use bp_base::{Memory, Sink, Source};
 use bp_core::Core;
 use bp_core::laws::stories_have_legal_schedules;
 use bp_log::{Header, Parallelism, Records};
-use bp_scope::{Places, in_scope};
 use bp_told::Telling;
 use js_program::Program;
 use std::alloc::Global;

@@ -1,14 +1,14 @@
 //! Turns of feeds that have no thread, which the session makes itself.
 ghost use Rattle.std.specs.Prelude.{◌≡◌, OnOk};
 ghost use Rattle.std.specs.List.{list_any};
-ghost use Rattle.bp_scope.specs.Readings.{Pairs, GoesOnAs};
+ghost use Rattle.bp_session.specs.inner.Readings.{Pairs, GoesOnAs};
 ghost use Rattle.bp_session.specs.inner.Hearing.{AreAsHeard};
 ghost use Rattle.bp_session.specs.inner.Turning.{turns_here, MakesTurn, MakeTurns, IsWaiting};
 
+use crate::reading::Reading;
 use crate::written::Written;
 use bp_base::{Memory, Source};
 use bp_inject::Started;
-use bp_scope::Reading;
 
 /// Whether the injector has no thread and is not over.
 fn turns_here<S: Source>(reading: &Reading<S>) -> bool

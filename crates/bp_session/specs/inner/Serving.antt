@@ -21,8 +21,8 @@ use Rattle.bp_told.specs.Told.{Given, Waiting, IsTold, IsBroken, IsWritten, IsPa
 use Rattle.bp_told.specs.declared.fault.RunFault.{RunFault}
 use Rattle.bp_turns.specs.Settled.{IsHere}
 use Rattle.bp_told.specs.declared.fault.RunFault.TheVariants as fault
-use Rattle.bp_scope.specs.declared.reading.Reading.{Reading}
-use Rattle.bp_scope.specs.Readings.{HasFailed}
+use Rattle.bp_session.specs.declared.reading.Reading.{Reading}
+use Rattle.bp_session.specs.inner.Readings.{HasFailed}
 use Rattle.bp_session.specs.Reports.{HasNoVerdict}
 use Rattle.bp_session.specs.declared.stop.Stop.{Stop}
 use Rattle.bp_session.specs.declared.stop.Stop.TheVariants as stop

@@ -10,7 +10,7 @@ use Rattle.bp_lanes.specs.Lanes.{offered, free_places}
 use Rattle.bp_feeds.specs.declared.feed.Feed.{Feed}
 use Rattle.bp_feeds.specs.Feeds.{is_over}
 use Rattle.bp_inject.specs.Injectors.{feed_of, is_running}
-use Rattle.bp_scope.specs.declared.reading.Reading.{Reading}
+use Rattle.bp_session.specs.declared.reading.Reading.{Reading}
 
 -- the run waits for its injectors, and nothing comes of its records until an item does
 pub record IsWaiting (c : Core) : Type 0 where

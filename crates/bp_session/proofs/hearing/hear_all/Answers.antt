@@ -1,9 +1,8 @@
 use Rattle.std.proofs.Common.{◌<◌, ◌∙◌, refl, sym, subst, arith, rules, length}
-use Rattle.bp_hear.specs.Hearings.{IsRecorded}
-use Rattle.bp_hear.proofs.Hears.{heard_at}
-use Rattle.bp_scope.specs.declared.reading.Reading.{Reading}
-use Rattle.bp_scope.specs.Readings.{GoesOnAs}
-use Rattle.bp_session.specs.inner.Hearing.{WasHeard}
+use Rattle.bp_session.proofs.Enters.{heard_at}
+use Rattle.bp_session.specs.declared.reading.Reading.{Reading}
+use Rattle.bp_session.specs.inner.Readings.{GoesOnAs}
+use Rattle.bp_session.specs.inner.Hearing.{IsRecorded, WasHeard}
 use Rattle.bp_session.proofs.Each.{each_none, each_all}
 use Rattle.bp_session.proofs.Hears.{hears_nothing, hears_both, hears_longer, heard_next, enters_now, entered_before, go_none, go_one}
 use Rattle.bp_session.proofs.hearing.hear_all.Goals.{then-branch, else-branch}

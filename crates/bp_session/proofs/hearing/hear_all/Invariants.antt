@@ -1,8 +1,7 @@
 use Rattle.std.proofs.Common.{◌≡◌, false, length, nat_lt}
 use Rattle.bp_floor.specs.declared.phase.Phase.TheVariants.{Rest}
-use Rattle.bp_hear.specs.Hearings.{AreHeard}
-use Rattle.bp_scope.specs.Readings.{Pairs, GoesOnAs}
-use Rattle.bp_session.specs.inner.Hearing.{HearsOn, WasHeard}
+use Rattle.bp_session.specs.inner.Readings.{Pairs, GoesOnAs}
+use Rattle.bp_session.specs.inner.Hearing.{AreHeard, HearsOn, WasHeard}
 use Rattle.bp_session.proofs.Each.{EachTo}
 use Rattle.bp_session.proofs.hearing.hear_all.Given as goal
 

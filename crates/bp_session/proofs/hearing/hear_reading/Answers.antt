@@ -1,5 +1,5 @@
 use Rattle.std.proofs.Common.{Err, ap, refl}
-use Rattle.bp_hear.specs.declared.hearing.HearFault.{HearFault}
+use Rattle.bp_session.specs.declared.hearing.HearFault.{HearFault}
 use Rattle.bp_session.proofs.Hears.{hears_on, was_now, heard_as}
 use Rattle.bp_session.proofs.hearing.hear_reading.Goals as goal
 

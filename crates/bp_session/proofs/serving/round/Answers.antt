@@ -1,6 +1,6 @@
 use Rattle.std.proofs.Common.{◌≡◌, false, rules}
-use Rattle.bp_scope.specs.Readings.{GoesOnAs}
-use Rattle.bp_scope.proofs.Readings.{pairs_many}
+use Rattle.bp_session.specs.inner.Readings.{GoesOnAs}
+use Rattle.bp_session.proofs.Readings.{pairs_many}
 use Rattle.bp_session.specs.inner.Outlets.{given_to}
 use Rattle.bp_told.specs.declared.fault.RunFault.TheVariants.{Memory}
 use Rattle.bp_session.specs.declared.stop.Stop.TheVariants as stop

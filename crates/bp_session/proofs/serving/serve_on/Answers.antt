@@ -1,10 +1,10 @@
 use Rattle.std.proofs.Common.{◌≡◌, ◌∙◌, arith, rules}
 use Rattle.bp_floor.specs.declared.phase.Phase.TheVariants.{Over}
+use Rattle.bp_session.specs.inner.Readings.{GoesOnAs}
+use Rattle.bp_session.proofs.Readings.{pairs_many}
 use Rattle.bp_session.specs.inner.Outlets.{given_to}
 use Rattle.bp_told.specs.Told.{WritesAll}
 use Rattle.bp_turns.proofs.Settled.{ok_map}
-use Rattle.bp_scope.specs.Readings.{GoesOnAs}
-use Rattle.bp_scope.proofs.Readings.{pairs_many}
 use Rattle.bp_session.specs.inner.Serving.{WritesRun, StopsTurning, StopsServing}
 use Rattle.bp_session.proofs.Served.{ready_on}
 use Rattle.bp_session.proofs.Hears.{heard_kept, go_none, go_both}

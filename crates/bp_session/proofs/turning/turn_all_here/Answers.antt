@@ -1,6 +1,6 @@
 use Rattle.std.proofs.Common.{◌<◌, ◌∙◌, List, length, set, length-set, subst, sym, ap, arith}
-use Rattle.bp_scope.specs.declared.reading.Reading.{Reading}
-use Rattle.bp_scope.specs.Readings.{Pairs, GoesOnAs}
+use Rattle.bp_session.specs.declared.reading.Reading.{Reading}
+use Rattle.bp_session.specs.inner.Readings.{Pairs, GoesOnAs}
 use Rattle.bp_session.specs.inner.Hearing.{AreAsHeard}
 use Rattle.bp_session.specs.inner.Turning.{MakesTurn, MakeTurns}
 use Rattle.bp_session.proofs.Each.{EachTo, each_none, each_next, each_all, written_back}

@@ -1,4 +1,4 @@
-use Rattle.bp_scope.specs.Readings.{Pairs, GoesOnAs}
+use Rattle.bp_session.specs.inner.Readings.{Pairs, GoesOnAs}
 use Rattle.bp_session.specs.inner.Hearing.{AreAsHeard}
 use Rattle.bp_session.specs.inner.Turning.{MakesTurn}
 use Rattle.bp_session.proofs.Each.{EachTo}

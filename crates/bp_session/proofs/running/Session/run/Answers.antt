@@ -9,7 +9,7 @@ use Rattle.bp_code.specs.Code.{code_of}
 use Rattle.bp_code.specs.Nodes.{nodes_of}
 use Rattle.bp_told.specs.Order.{PrintsBehind}
 use Rattle.bp_told.specs.Told.{given}
-use Rattle.bp_hear.specs.Heard.{EachHeard}
+use Rattle.bp_session.specs.Heard.{EachHeard}
 use Rattle.bp_session.specs.Reports.{Partly, ComeBack, EndsAs}
 use Rattle.bp_session.proofs.Reports.{told_of, text_first, nothing_written, nothing_heard, each_heard, come_back, ended_run, story_ended, behind_ended, ends_as}
 use Rattle.bp_session.proofs.running.Session.run.Goals as goal

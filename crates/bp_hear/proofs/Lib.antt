@@ -1,4 +1,0 @@
-pub mod Items
-pub mod Back
-pub mod Hears
-mod Rows

@@ -1,3 +1,0 @@
-pub mod Merges
-pub mod Heard
-pub mod Hearings
