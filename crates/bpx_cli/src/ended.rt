@@ -6,9 +6,8 @@ ghost use Rattle.bpx_cli.specs.Logs.{trouble_of};
 
 use bp_answers::NoAnswer;
 use bp_log::Memory;
-use bp_notes::bad_log_note;
 use bp_reader::LogFault;
-use bp_replay::ReplayFault;
+use bp_replay::{ReplayFault, bad_log_note};
 use bp_script::Refusal;
 use bpx_words::USAGE;
 use js_data::Text;

@@ -2,8 +2,8 @@ use Rattle.std.proofs.Common.{◌∙◌, ap}
 use Rattle.bp_log.specs.Texts.{line_text}
 use Rattle.bp_log.specs.declared.trace.Line.TheVariants as line
 use Rattle.bp_log.specs.declared.verdict.Verdict.{Verdict}
-use Rattle.bp_notes.proofs.Behind.{begins, behind}
-use Rattle.bp_notes.proofs.texts.verdict_text_of.Goals as goal
+use Rattle.bp_replay.proofs.VerdictLines.{begins, behind}
+use Rattle.bp_replay.proofs.texts.verdict_text_of.Goals as goal
 
 pub unreachable-requires : goal.unreachable-requires
 unreachable-requires c =

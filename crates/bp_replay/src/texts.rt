@@ -2,7 +2,7 @@
 ghost use Rattle.std.specs.Prelude.{◌≡◌, IfOk, string_bytes};
 ghost use Rattle.bp_log.specs.Logs.{record_text};
 ghost use Rattle.bp_log.specs.Texts.{verdict_text};
-ghost use Rattle.bp_notes.specs.Notes.{differing, expected_text};
+ghost use Rattle.bp_replay.specs.Notes.{differing, expected_text};
 
 use bp_log::{Line, Memory, Record, Verdict, line_of};
 use js_data::Text;

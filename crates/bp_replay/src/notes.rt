@@ -1,11 +1,11 @@
 //! What is said of a bad log.
 ghost use Rattle.std.specs.Prelude.{◌≡◌, IfOk, string_bytes};
-ghost use Rattle.bp_notes.specs.Notes.{bad_log_note, detail_of, log_detail};
+ghost use Rattle.bp_replay.specs.Notes.{bad_log_note, detail_of, log_detail};
 
+use crate::ReplayFault;
 use crate::texts::differing;
 use bp_log::Memory;
 use bp_reader::LogFault;
-use bp_replay::ReplayFault;
 use js_data::Text;
 use std::alloc::Global;
 
