@@ -4,10 +4,9 @@
 mod answering;
 mod asking;
 mod ended;
-mod loading;
 mod reasoning;
 mod seeding;
 mod stating;
 
 pub use answering::answer;
-pub use ended::{Ended, NO_MEMORY};
+pub use ended::Ended;

@@ -1,8 +1,8 @@
 use Rattle.std.proofs.Common.{Err, ap, subst, List, ℕ}
 use Rattle.bp_base.specs.declared.moving.ReadError.{ReadError}
 use Rattle.bp_script.specs.Faults.{IsScriptFault}
-use Rattle.bp_cli.proofs.Refused.{unloaded_fault, fault_read}
-use Rattle.bp_cli.proofs.loading.load.Goals as goal
+use Rattle.bp_loading.proofs.Refused.{unloaded_fault, fault_read}
+use Rattle.bp_loading.proofs.loading.load.Goals as goal
 
 pub returns-in-Err-TooLong-clause-unloaded : goal.returns-in-Err-TooLong-clause-unloaded
 returns-in-Err-TooLong-clause-unloaded g c = c.in-Err-TooLong.ensures.too_long (ap (λ (x : ReadError). Err x) c.in-Err-TooLong.field-0-is)

@@ -1,5 +1,5 @@
-use Rattle.bpx_cli.proofs.Loads.{too_long}
-use Rattle.bpx_cli.proofs.loading.bytes_of.Goals as goal
+use Rattle.bp_loading.proofs.Refused.{too_long}
+use Rattle.bp_loading.proofs.loading.bytes_of.Goals as goal
 
 pub returns-clause-too_long : goal.returns-clause-too_long
 returns-clause-too_long g c =
