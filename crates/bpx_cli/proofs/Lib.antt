@@ -1,2 +1,5 @@
+mod RequestRows
+mod WhyRows
+pub mod Splits
 pub mod Tells
 pub mod Said

@@ -9,14 +9,14 @@ use Rattle.bp_loading.specs.declared.unloaded.Unloaded.{Unloaded}
 use Rattle.bp_check.specs.Findings.{Finding, findings}
 use Rattle.bp_check.specs.Sentences.{check_text}
 use Rattle.bp_explain.specs.Seeds.{seeds_of}
-use Rattle.bpx_words.specs.Seeds.{PlainSeeds}
-use Rattle.bpx_words.specs.declared.request.Request.{Request}
-use Rattle.bpx_words.specs.declared.request.Request.TheVariants as request
+use Rattle.bpx_cli.specs.SeedsAsked.{PlainSeeds}
+use Rattle.bpx_cli.specs.declared.request.Request.{Request}
+use Rattle.bpx_cli.specs.declared.request.Request.TheVariants as request
 use Rattle.bpx_cli.specs.States.{IsStateOf, IsUnstated}
 use Rattle.bpx_cli.specs.Whys.{IsWhyOf, IsUnexplained}
 use Rattle.bpx_cli.specs.declared.ended.Ended.{Ended}
 use Rattle.bpx_cli.specs.declared.ended.Ended.TheVariants.{Answered, Found, NoCommand, Refused, Absent, NotRead, NotWritten, NoMemory, BadLog}
-use Rattle.bpx_words.specs.declared.help.TheConstants.{HELP}
+use Rattle.bpx_cli.specs.declared.help.TheConstants.{HELP}
 
 -- the bytes under the name are this program
 pub record IsProgramOf (holds : Option Holdings) (name : List ℕ) (program : PlainProgram) : Type 0 where

@@ -1,19 +1,21 @@
 //! What is asked for, and its answer.
 ghost use Rattle.std.specs.Prelude.{◌≡◌, ◌≤◌, IsErrOf, IfOk, IfErr, map, string_bytes};
 ghost use Rattle.bp_base.specs.Counts.{Rose};
-ghost use Rattle.bpx_words.specs.Requests.{request_of};
+ghost use Rattle.bpx_cli.specs.Requests.{request_of};
 ghost use Rattle.bpx_cli.specs.inner.Ends.{ended_by};
 ghost use Rattle.bpx_cli.specs.Answers.{Answers, IsUnanswered, EndsUnloaded, IsChecked, IsCheckOf, EndsAs, Ends};
 
 use crate::ended::{Ended, Reply};
+use crate::help::HELP;
 use crate::reasoning::why_reply;
+use crate::request::{Request, read};
 use crate::seeding::seeds_reply;
 use crate::stating::state_reply;
+use bp_args::Usage;
 use bp_base::{Sink, World, write_all};
 use bp_check::check;
 use bp_loading::load;
 use bp_log::Memory;
-use bpx_words::{HELP, Request, Usage, read};
 use js_data::Text;
 use js_program::Program;
 use std::alloc::Global;

@@ -4,13 +4,13 @@ ghost use Rattle.bpx_cli.specs.Statuses.{note_of, status_of};
 ghost use Rattle.bpx_cli.specs.inner.Ends.{ended_of_log};
 ghost use Rattle.bpx_cli.specs.Logs.{trouble_of};
 
+use crate::help::USAGE;
 use bp_answers::NoAnswer;
 use bp_loading::{NO_MEMORY, Unloaded};
 use bp_log::Memory;
 use bp_reader::LogFault;
 use bp_replay::{ReplayFault, bad_log_note};
 use bp_script::Refusal;
-use bpx_words::USAGE;
 use js_data::Text;
 use std::alloc::Global;
 

@@ -3,10 +3,16 @@
 
 mod answering;
 mod asking;
+mod behind;
 mod ended;
+mod help;
 mod reasoning;
+mod request;
 mod seeding;
+mod seeds;
+mod state;
 mod stating;
+mod why;
 
 pub use answering::answer;
 pub use ended::Ended;

@@ -5,10 +5,10 @@ ghost use Rattle.bp_seeds.specs.Sweeps.{IsSweep};
 ghost use Rattle.bpx_cli.specs.Answers.{AreSeedsOf, EndsUnloaded};
 
 use crate::ended::{Ended, Reply};
+use crate::seeds::Seeds;
 use bp_base::World;
 use bp_loading::load;
 use bp_seeds::{Sweep, sweep_text};
-use bpx_words::Seeds;
 use std::alloc::Global;
 use std::thread::Threads;
 

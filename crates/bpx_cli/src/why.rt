@@ -1,6 +1,6 @@
 //! Requests for why an event was selected, and for who asks for one.
 ghost use Rattle.std.specs.Prelude.{◌≡◌, Some, None, map, string_bytes, IfOk, IsErrOf};
-ghost use Rattle.bpx_words.specs.Whys.{selection_at, subject_at, why_asked};
+ghost use Rattle.bpx_cli.specs.WhyAsked.{selection_at, subject_at, why_asked};
 
 use crate::state::{last_apart, log_of};
 use bp_args::Usage;

@@ -4,9 +4,9 @@ use Rattle.std.specs.Prelude.{codes}
 use Rattle.bp_log.specs.Options.{PlainOptions, default_options}
 use Rattle.bp_log.specs.Parallelism.{default_parallelism}
 use Rattle.bp_log.specs.declared.options.Strategy.TheVariants.{Ordered}
-use Rattle.bpx_words.specs.declared.request.Request.{Request}
-use Rattle.bpx_words.specs.declared.request.Request.TheVariants.{Help, Check, State, Seeds}
-use Rattle.bpx_words.specs.Requests.{request_of}
+use Rattle.bpx_cli.specs.declared.request.Request.{Request}
+use Rattle.bpx_cli.specs.declared.request.Request.TheVariants.{Help, Check, State, Seeds}
+use Rattle.bpx_cli.specs.Requests.{request_of}
 
 abbrev p : List ℕ
 p = codes "p"

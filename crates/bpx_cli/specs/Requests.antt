@@ -4,11 +4,11 @@ use Rattle.std.specs.Str.{bytes_eq}
 use Rattle.bp_args.specs.declared.command.Command.{Command}
 use Rattle.bp_args.specs.declared.command.Command.TheVariants as command
 use Rattle.bp_args.specs.Command.{command_of}
-use Rattle.bpx_words.specs.declared.request.Request.{Request}
-use Rattle.bpx_words.specs.declared.request.Request.TheVariants as request
-use Rattle.bpx_words.specs.States.{state_asked}
-use Rattle.bpx_words.specs.Seeds.{seeds_asked}
-use Rattle.bpx_words.specs.Whys.{why_asked}
+use Rattle.bpx_cli.specs.declared.request.Request.{Request}
+use Rattle.bpx_cli.specs.declared.request.Request.TheVariants as request
+use Rattle.bpx_cli.specs.StateAsked.{state_asked}
+use Rattle.bpx_cli.specs.SeedsAsked.{seeds_asked}
+use Rattle.bpx_cli.specs.WhyAsked.{why_asked}
 
 abbrev pub check_asked : Option Command → Option Request
 check_asked (Some (command.Accept program)) = Some (request.Check program)

@@ -1,6 +1,6 @@
 //! Requests, and the words that they are read from.
 ghost use Rattle.std.specs.Prelude.{◌≡◌, Some, None, map, string_bytes, IfOk, IsErrOf};
-ghost use Rattle.bpx_words.specs.Requests.{check_asked, help_of, request_behind, request_of};
+ghost use Rattle.bpx_cli.specs.Requests.{check_asked, help_of, request_behind, request_of};
 
 use crate::behind::command_behind;
 use crate::seeds::{Seeds, seeds_asked};
@@ -66,7 +66,7 @@ fn read_behind(alloc: Global, first: &str, words: &[String]) -> Result<Request, 
 
 /// What the words ask for, without the name of the program that reads them. `Wrong` is answered
 /// exactly where they are no command of `bpx`.
-pub fn read(alloc: Global, words: &[String]) -> Result<Request, Usage>
+pub(crate) fn read(alloc: Global, words: &[String]) -> Result<Request, Usage>
     ensures request { IfOk result (λ r. request_of (map string_bytes words.now) ≡ Some r) }
     ensures wrong { IsErrOf result Usage.Wrong → request_of (map string_bytes words.now) ≡ None }
 {

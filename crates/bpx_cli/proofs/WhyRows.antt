@@ -5,9 +5,9 @@ use Rattle.std.specs.Str.{is_utf8, chars}
 use Rattle.serde_json.proofs.OnLiterals.{serde_json_on_literals}
 use Rattle.js_data.specs.Data.{PlainData, whole}
 use Rattle.bp_explain.specs.declared.subject.Subject.TheVariants.{Selection, Event}
-use Rattle.bpx_words.specs.declared.request.Request.{Request}
-use Rattle.bpx_words.specs.declared.request.Request.TheVariants.{Why}
-use Rattle.bpx_words.specs.Requests.{request_of}
+use Rattle.bpx_cli.specs.declared.request.Request.{Request}
+use Rattle.bpx_cli.specs.declared.request.Request.TheVariants.{Why}
+use Rattle.bpx_cli.specs.Requests.{request_of}
 
 abbrev p : List ℕ
 p = codes "p"

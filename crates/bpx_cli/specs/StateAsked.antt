@@ -5,7 +5,7 @@ use Rattle.bp_reading.specs.Words.{number_at, most_32}
 use Rattle.bp_args.specs.declared.command.Command.{Command}
 use Rattle.bp_args.specs.declared.command.Command.TheVariants as command
 use Rattle.bp_args.specs.Command.{command_of}
-use Rattle.bpx_words.specs.declared.state.State.{State}
+use Rattle.bpx_cli.specs.declared.state.State.{State}
 
 -- the log that is replayed
 abbrev pub log_in : Option Command → Option (List ℕ)

@@ -2,7 +2,7 @@
 use Rattle.std.proofs.Common.{◌≡◌, ◌∙◌, ℕ, List, [], ◌∷◌, ◌++◌, length, map, Some, None, refl, ap}
 use Rattle.std.specs.Prelude.{option_map}
 use Rattle.std.proofs.lemmas.List.{map-append}
-use Rattle.bpx_words.specs.States.{last_apart}
+use Rattle.bpx_cli.specs.StateAsked.{last_apart}
 
 apart_snoc : (words : List (List ℕ)) (last : List ℕ) → last_apart (words ++ last ∷ []) ≡ Some (words, last)
 apart_snoc [] last = refl

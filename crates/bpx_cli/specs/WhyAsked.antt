@@ -6,8 +6,8 @@ use Rattle.js_json.specs.Json.{event_at}
 use Rattle.bp_reading.specs.Words.{number_at, most_32}
 use Rattle.bp_explain.specs.declared.subject.Subject.{Subject}
 use Rattle.bp_explain.specs.declared.subject.Subject.TheVariants as subject
-use Rattle.bpx_words.specs.declared.why.Why.{Why}
-use Rattle.bpx_words.specs.States.{log_of, last_apart}
+use Rattle.bpx_cli.specs.declared.why.Why.{Why}
+use Rattle.bpx_cli.specs.StateAsked.{log_of, last_apart}
 
 -- selections are counted from 1
 abbrev pub selection_of : ℕ → Option Subject

@@ -1,6 +1,6 @@
 use Rattle.std.proofs.Common.{◌≡◌, ◌∷◌, ◌++◌, map, drop}
 use Rattle.std.specs.Prelude.{string_bytes}
-use Rattle.bpx_words.proofs.behind.words_behind.Given as goal
+use Rattle.bpx_cli.proofs.behind.words_behind.Given as goal
 
 abbrev pub invariant-loop-word : goal.invariant-loop-word
 invariant-loop-word l = record {

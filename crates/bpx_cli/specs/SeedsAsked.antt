@@ -9,7 +9,7 @@ use Rattle.bp_args.specs.declared.command.Run.{Run}
 use Rattle.bp_args.specs.declared.command.Command.{Command}
 use Rattle.bp_args.specs.declared.command.Command.TheVariants as command
 use Rattle.bp_args.specs.Command.{command_of}
-use Rattle.bpx_words.specs.declared.seeds.TheConstants.{MOST_SEEDS}
+use Rattle.bpx_cli.specs.declared.seeds.TheConstants.{MOST_SEEDS}
 
 pub record PlainSeeds : Type 0 where
   pub program : List ℕ

@@ -1,6 +1,6 @@
 //! Requests for the runs of a program under some seeds.
 ghost use Rattle.std.specs.Prelude.{◌≡◌, Some, None, map, string_bytes, IfOk, IsErrOf};
-ghost use Rattle.bpx_words.specs.Seeds.{AreSeeds, seed_at, ends_of as ends_at, seeds_between, seeds_of_run, seeds_in, seeds_asked};
+ghost use Rattle.bpx_cli.specs.SeedsAsked.{AreSeeds, seed_at, ends_of as ends_at, seeds_between, seeds_of_run, seeds_in, seeds_asked};
 
 use crate::behind::{command_behind, words_behind};
 use bp_args::{Command, Run, Usage};
@@ -27,7 +27,7 @@ pub struct Seeds {
 }
 
 impl Model for Seeds {
-    ghost use Rattle.bpx_words.specs.Seeds.{PlainSeeds, AreSeeds};
+    ghost use Rattle.bpx_cli.specs.SeedsAsked.{PlainSeeds, AreSeeds};
 
     ghost Value = { PlainSeeds };
 

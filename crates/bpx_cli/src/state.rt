@@ -1,7 +1,7 @@
 //! Requests for the state of a run.
 ghost use Rattle.std.specs.Prelude.{◌≡◌, Some, None, map, option_map, string_bytes, IfOk, IsErrOf};
 ghost use Rattle.bp_args.specs.declared.command.Command.{Command};
-ghost use Rattle.bpx_words.specs.States.{log_in, log_of, last_apart, numbered, numbered_state, state_asked};
+ghost use Rattle.bpx_cli.specs.StateAsked.{log_in, log_of, last_apart, numbered, numbered_state, state_asked};
 
 use crate::behind::command_behind;
 use bp_args::{Command, Usage};
