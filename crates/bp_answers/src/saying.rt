@@ -13,8 +13,7 @@ use crate::resting::write_at_rest;
 use crate::walking::walk;
 use bp_arbiter::{Arbiter, Phase};
 use bp_log::{Line, Memory, Options, Record, Verdict, verdict_of, whole_line_of};
-use bp_notes::record_text_of;
-use bp_replay::{ReplayFault, follow};
+use bp_replay::{ReplayFault, follow, record_text_of};
 use js_program::Program;
 use std::alloc::Global;
 

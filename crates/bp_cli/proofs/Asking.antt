@@ -4,11 +4,13 @@ use Rattle.std.specs.Prelude.{◌⊎◌, Option, Some, None, Err, Ok, IsErrOf, I
 use Rattle.std.proofs.lemmas.List.{take-append-drop}
 use Rattle.std.proofs.Math.Seq.{take-length}
 use mathlib.Core.List.{IsPrefix}
-use Rattle.bp_base.specs.Worlds.{Holdings, Asks}
+use Rattle.bp_base.specs.Worlds.{Asks}
 use Rattle.bp_base.specs.declared.outside.WorldError.{WorldError}
 use Rattle.js_program.specs.PlainProgram.{PlainProgram}
 use Rattle.bp_log.specs.declared.record.Record.{Record}
 use Rattle.bp_script.specs.declared.refusal.Refusal.{Refusal}
+use Rattle.bp_loading.specs.declared.unloaded.Unloaded.{Unloaded}
+use Rattle.bp_loading.specs.declared.unloaded.Unloaded.TheVariants as unloaded
 use Rattle.bp_args.specs.declared.command.Command.{Command}
 use Rattle.bp_args.specs.declared.command.Command.TheVariants as command
 use Rattle.bp_args.specs.declared.command.Run.{Run}
@@ -16,8 +18,7 @@ use Rattle.bp_cli.specs.declared.conclusion.Conclusion.{Conclusion}
 use Rattle.bp_cli.specs.declared.conclusion.Conclusion.TheVariants.{Refused, Ran, NotRead, NotWritten, NoMemory}
 use Rattle.bp_cli.specs.Outside.{Outside}
 use Rattle.bp_cli.specs.Asking.{names_of, WasAsked, WasAskedSome, WasAskedAtMost, AsksFor, AsksIn}
-use Rattle.bp_cli.specs.inner.Outcomes.{unopened_of, unmade_of}
-use Rattle.bp_cli.specs.inner.Unloaded.{IsUnloaded}
+use Rattle.bp_cli.specs.inner.Outcomes.{unopened_of, unmade_of, unloaded_of}
 use Rattle.bp_cli.specs.Runs.{RunEnds}
 
 -- ---- fronts of names
@@ -43,11 +44,11 @@ prefix_first x xs ys = (ys, refl)
 
 -- ---- asked
 
-pub asked_err : {T : Type 0} (c k : Conclusion) (P Q : Type 0) → ((IsErrOf {T = T} (Err c) k × P) ⊎ Q) → (((c ≡ k) × P) ⊎ Q)
-asked_err c k P Q (inl h) = inl ((let e = h.0 in cc), h.1)
-asked_err c k P Q (inr q) = inr q
+pub asked_err : {T : Type 0} (u k : Unloaded) (P Q : Type 0) → ((IsErrOf {T = T} (Err u) k × P) ⊎ Q) → (((u ≡ k) × P) ⊎ Q)
+asked_err u k P Q (inl h) = inl ((let e = h.0 in cc), h.1)
+asked_err u k P Q (inr q) = inr q
 
-pub asked_ok : {T : Type 0} (x : T) (k : Conclusion) (P Q : Type 0) → ((IsErrOf (Ok x) k × P) ⊎ Q) → Q
+pub asked_ok : {T : Type 0} (x : T) (k : Unloaded) (P Q : Type 0) → ((IsErrOf (Ok x) k × P) ⊎ Q) → Q
 asked_ok x k P Q (inl h) = let f : ⊥ = (let e = h.0 in cc) in absurd f
 asked_ok x k P Q (inr q) = q
 
@@ -69,16 +70,19 @@ first_asked : (c : Command) (name : List ℕ) (rest : List (List ℕ)) (k : Conc
     AsksIn (Some c) before after k
 first_asked c name rest k before after e a h = (name ∷ [], subst (λ (ns : List (List ℕ)). AsksFor k ns (name ∷ [])) (sym e) a, h)
 
--- a command that has no accepted program
-pub asks_unloaded : (c : Command) (name : List ℕ) (rest : List (List ℕ)) (holds : Option Holdings) (before after : Option (List (List ℕ))) (conclusion : Conclusion) → names_of c ≡ name ∷ rest →
-    IsUnloaded holds name conclusion → (((conclusion ≡ NoMemory) × (after ≡ before)) ⊎ Asks before name after) → AsksIn (Some c) before after conclusion
-asks_unloaded c name rest holds before after (Refused refusal) e u (inl h) = let f : ⊥ = (let k = h.0 in cc) in absurd f
-asks_unloaded c name rest holds before after (Refused refusal) e u (inr h) = first_asked c name rest (Refused refusal) before after e refl h
-asks_unloaded c name rest holds before after NotRead e u (inl h) = let f : ⊥ = (let k = h.0 in cc) in absurd f
-asks_unloaded c name rest holds before after NotRead e u (inr h) = first_asked c name rest NotRead before after e (prefix_first name rest [], (rest, refl)) h
-asks_unloaded c name rest holds before after NoMemory e u (inl h) = ([], prefix_nil (names_of c), asks_same before after h.1)
-asks_unloaded c name rest holds before after NoMemory e u (inr h) = first_asked c name rest NoMemory before after e (rest, refl) h
-asks_unloaded c name rest holds before after _ e u h = absurd u
+-- a command whose program was not loaded
+asks_unloaded_of : (c : Command) (name : List ℕ) (rest : List (List ℕ)) (before after : Option (List (List ℕ))) (u : Unloaded) → names_of c ≡ name ∷ rest →
+    (((u ≡ unloaded.NoMemory) × (after ≡ before)) ⊎ Asks before name after) → AsksIn (Some c) before after (unloaded_of u)
+asks_unloaded_of c name rest before after (unloaded.Refused refusal) e (inl h) = let f : ⊥ = (let k = h.0 in cc) in absurd f
+asks_unloaded_of c name rest before after (unloaded.Refused refusal) e (inr h) = first_asked c name rest (Refused refusal) before after e refl h
+asks_unloaded_of c name rest before after unloaded.NotRead e (inl h) = let f : ⊥ = (let k = h.0 in cc) in absurd f
+asks_unloaded_of c name rest before after unloaded.NotRead e (inr h) = first_asked c name rest NotRead before after e (prefix_first name rest [], (rest, refl)) h
+asks_unloaded_of c name rest before after unloaded.NoMemory e (inl h) = ([], prefix_nil (names_of c), asks_same before after h.1)
+asks_unloaded_of c name rest before after unloaded.NoMemory e (inr h) = first_asked c name rest NoMemory before after e (rest, refl) h
+
+pub asks_unloaded : (c : Command) (name : List ℕ) (rest : List (List ℕ)) (before after : Option (List (List ℕ))) (u : Unloaded) (k : Conclusion) → names_of c ≡ name ∷ rest → k ≡ unloaded_of u →
+    (((u ≡ unloaded.NoMemory) × (after ≡ before)) ⊎ Asks before name after) → AsksIn (Some c) before after k
+asks_unloaded c name rest before after u k e s h = subst (λ (x : Conclusion). AsksIn (Some c) before after x) (sym s) (asks_unloaded_of c name rest before after u e h)
 
 -- ---- before the log
 

@@ -25,7 +25,8 @@ use Rattle.bp_code.specs.Code.{code_of, text_of}
 use Rattle.bp_complete.specs.Completions.{AreBrought, MergesBrought}
 use Rattle.bp_complete.proofs.Completing.{completes}
 use Rattle.bp_args.specs.declared.command.Run.{Run}
-use Rattle.bp_cli.specs.Outside.{Outside, IsUnder}
+use Rattle.bp_loading.specs.Loading.{IsUnder}
+use Rattle.bp_cli.specs.Outside.{Outside}
 use Rattle.bp_cli.specs.Injected.{AreUnder}
 use Rattle.bp_cli.specs.Runs.{IsBeginning}
 use Rattle.bp_session.specs.Merges.{Merge}

@@ -3,7 +3,7 @@ use Rattle.std.proofs.Common.{◌≡◌, ◌∙◌, ℕ, List, [], length, refl,
 use Rattle.std.specs.Prelude.{◌⊎◌, true, Result, Err, IsSome, IsSomeAnd, slice_index_or}
 use Rattle.std.proofs.lemmas.Bool.{false≢true}
 use Rattle.bp_base.specs.Counts.{Rose}
-use Rattle.bp_base.specs.Worlds.{Holdings, Asks}
+use Rattle.bp_base.specs.Worlds.{Asks}
 use Rattle.bp_base.specs.declared.outside.WorldError.{WorldError}
 use Rattle.bp_base.specs.Pieces.{Appends, AppendsFront}
 use Rattle.js_program.specs.PlainProgram.{PlainProgram}
@@ -23,21 +23,23 @@ use Rattle.bp_run.specs.Text.{text}
 use Rattle.bp_code.specs.Code.{text_of}
 use Rattle.bp_script.specs.Programs.{IsProgram}
 use Rattle.bp_feeds.proofs.Going.{rose_from}
+use Rattle.bp_loading.specs.Loading.{IsUnder, IsUnloaded}
+use Rattle.bp_loading.specs.declared.unloaded.Unloaded.{Unloaded}
+use Rattle.bp_loading.specs.declared.unloaded.Unloaded.TheVariants as unloaded
 use Rattle.bp_args.specs.declared.command.Command.{Command}
 use Rattle.bp_args.specs.declared.command.Command.TheVariants as command
 use Rattle.bp_args.specs.declared.command.Run.{Run}
 use Rattle.bp_cli.specs.declared.conclusion.Conclusion.{Conclusion}
 use Rattle.bp_cli.specs.declared.conclusion.Conclusion.TheVariants.{NoCommand, Refused, Accepted, Ran, NotRead, NotWritten, NoMemory, BadLog, Migrated}
-use Rattle.bp_cli.specs.Outside.{Outside, NeverFalls, IsAsBefore, IsUnder}
+use Rattle.bp_cli.specs.Outside.{Outside, ReadFailed, NeverFalls, IsAsBefore}
 use Rattle.bp_cli.specs.Texts.{IsAcceptedUnder, accepted_line, LineEnds}
 use Rattle.bp_cli.specs.Conclusions.{IsStatusOf}
-use Rattle.bp_cli.specs.inner.Outcomes.{has_note, unopened_of, unmade_of}
+use Rattle.bp_cli.specs.inner.Outcomes.{has_note, unopened_of, unmade_of, unloaded_of}
 use Rattle.bp_cli.specs.Asking.{WasAskedAtMost, AsksIn}
 use Rattle.bp_cli.specs.Endings.{IsCaused, IsUnread, Does, CanEnd, EndsIn, Ends}
 use Rattle.bp_cli.specs.Large.{Measures}
 use Rattle.bp_cli.specs.Replaying.{replayed_of}
 use Rattle.bp_cli.specs.Migrating.{migrated_of}
-use Rattle.bp_cli.specs.inner.Unloaded.{IsUnloaded}
 use Rattle.bp_cli.specs.inner.Opening.{AreOpened}
 use Rattle.bp_cli.specs.Runs.{Holds, KeepsLog, KeepsLogFront, TellsWhole, TellsPartly, RunEnds, IsRunOf, header_of}
 use Rattle.bp_cli.proofs.Asking.{IsBeforeLog, asks_some, at_most_unloaded, refused_asked, log_unloaded, log_refused}
@@ -152,39 +154,34 @@ unmade_ends left faults asked bytes program sources WorldError.Memory c records 
 
 -- ---- before anything was done
 
-pub accept_unloaded : (program name : List ℕ) (before after : Outside) (c : Conclusion) → name ≡ program → IsUnloaded before.holds name c → IsCaused before after c → IsAsBefore before after →
-    EndsIn (Some (command.Accept program)) [] before after c
-accept_unloaded program name before after (Refused refusal) e u k same = (tt, inr ((u.0, subst (λ (x : List ℕ). IsUnder before.holds x u.0) e u.1, u.2), (same, refl)))
-accept_unloaded program name before after NotRead e u k same = (k, inl (inl refl, (same, refl)))
-accept_unloaded program name before after NoMemory e u k same = (tt, inl (inr refl, (same, refl)))
-accept_unloaded program name before after _ e u k same = absurd u
+accept_unloaded_of : (program name : List ℕ) (before after : Outside) (u : Unloaded) → name ≡ program → IsUnloaded before.holds name u → (u ≡ unloaded.NotRead → ReadFailed before after) → IsAsBefore before after →
+    EndsIn (Some (command.Accept program)) [] before after (unloaded_of u)
+accept_unloaded_of program name before after (unloaded.Refused refusal) e u f same = (tt, inr ((u.0, subst (λ (x : List ℕ). IsUnder before.holds x u.0) e u.1, u.2), (same, refl)))
+accept_unloaded_of program name before after unloaded.NotRead e u f same = (f refl, inl (inl refl, (same, refl)))
+accept_unloaded_of program name before after unloaded.NoMemory e u f same = (tt, inl (inr refl, (same, refl)))
 
-unloaded_run : (asked : Run) (name : List ℕ) (before after : Outside) (c : Conclusion) → name ≡ asked.program → IsUnloaded before.holds name c → IsCaused before after c → WasAskedAtMost before.asked asked.program after.asked → IsBeforeLog asked before.asked after.asked → IsAsBefore before after →
-    EndsIn (Some (command.Run asked)) [] before after c
-unloaded_run asked name before after (Refused refusal) e u k a l same = (tt, inr ((u.0, subst (λ (x : List ℕ). IsUnder before.holds x u.0) e u.1, u.2), (same, refl)))
-unloaded_run asked name before after NotRead e u k a l same = (k, inl ((inl refl, inl a, l), (same, refl)))
-unloaded_run asked name before after NoMemory e u k a l same = (tt, inl ((inr refl, inl a, l), (same, refl)))
-unloaded_run asked name before after _ e u k a l same = absurd u
+pub accept_unloaded : (program name : List ℕ) (before after : Outside) (u : Unloaded) (k : Conclusion) → name ≡ program → k ≡ unloaded_of u → IsUnloaded before.holds name u → (u ≡ unloaded.NotRead → ReadFailed before after) → IsAsBefore before after →
+    EndsIn (Some (command.Accept program)) [] before after k
+accept_unloaded program name before after u k e s h f same = subst (λ (x : Conclusion). EndsIn (Some (command.Accept program)) [] before after x) (sym s) (accept_unloaded_of program name before after u e h f same)
 
-pub run_unloaded : (asked : Run) (name : List ℕ) (records : List Record) (before after : Outside) (c k : Conclusion) → records ≡ [] → k ≡ c → name ≡ asked.program → IsUnloaded before.holds name c → IsCaused before after c →
-    (((c ≡ NoMemory) × (after.asked ≡ before.asked)) ⊎ Asks before.asked name after.asked) → IsAsBefore before after → EndsIn (Some (command.Run asked)) records before after k
-run_unloaded asked name records before after c k n e p u f a same =
+run_unloaded_of : (asked : Run) (name : List ℕ) (before after : Outside) (u : Unloaded) → name ≡ asked.program → IsUnloaded before.holds name u → (u ≡ unloaded.NotRead → ReadFailed before after) → WasAskedAtMost before.asked asked.program after.asked → IsBeforeLog asked before.asked after.asked → IsAsBefore before after →
+    EndsIn (Some (command.Run asked)) [] before after (unloaded_of u)
+run_unloaded_of asked name before after (unloaded.Refused refusal) e u f a l same = (tt, inr ((u.0, subst (λ (x : List ℕ). IsUnder before.holds x u.0) e u.1, u.2), (same, refl)))
+run_unloaded_of asked name before after unloaded.NotRead e u f a l same = (f refl, inl ((inl refl, inl a, l), (same, refl)))
+run_unloaded_of asked name before after unloaded.NoMemory e u f a l same = (tt, inl ((inr refl, inl a, l), (same, refl)))
+
+pub run_unloaded : (asked : Run) (name : List ℕ) (records : List Record) (before after : Outside) (u : Unloaded) (k : Conclusion) → records ≡ [] → k ≡ unloaded_of u → name ≡ asked.program → IsUnloaded before.holds name u → (u ≡ unloaded.NotRead → ReadFailed before after) →
+    (((u ≡ unloaded.NoMemory) × (after.asked ≡ before.asked)) ⊎ Asks before.asked name after.asked) → IsAsBefore before after → EndsIn (Some (command.Run asked)) records before after k
+run_unloaded asked name records before after u k n e p h f a same =
     subst (λ (rs : List Record). EndsIn (Some (command.Run asked)) rs before after k) (sym n)
     (subst (λ (x : Conclusion). EndsIn (Some (command.Run asked)) [] before after x) (sym e)
-    (unloaded_run asked name before after c p u f (at_most_unloaded name asked.program (c ≡ NoMemory) before.asked after.asked p a) (log_unloaded asked name (c ≡ NoMemory) before.asked after.asked p a) same))
+    (run_unloaded_of asked name before after u p h f (at_most_unloaded name asked.program (u ≡ unloaded.NoMemory) before.asked after.asked p a) (log_unloaded asked name (u ≡ unloaded.NoMemory) before.asked after.asked p a) same))
 
 -- an injector of a run was not opened
 pub run_unopened : (asked : Run) (error : WorldError) (records : List Record) (before after : Outside) (k : Conclusion) → records ≡ [] → k ≡ unopened_of error → (error ≡ WorldError.Failed → IsCaused before after NotRead) →
     IsAcceptedUnder before.holds asked.program → IsBeforeLog asked before.asked after.asked → IsAsBefore before after → EndsIn (Some (command.Run asked)) records before after k
 run_unopened asked WorldError.Failed records before after k n e f u l same = subst (λ (x : Conclusion). EndsIn (Some (command.Run asked)) records before after x) (sym e) (f refl, inl ((inl refl, inr u, l), (same, n)))
 run_unopened asked WorldError.Memory records before after k n e f u l same = subst (λ (x : Conclusion). EndsIn (Some (command.Run asked)) records before after x) (sym e) (tt, inl ((inr refl, inr u, l), (same, n)))
-
--- the cause of what was not loaded
-pub unloaded_caused : (holds : Option Holdings) (name : List ℕ) (before after : Outside) (c : Conclusion) → IsUnloaded holds name c → (c ≡ NotRead → IsCaused before after NotRead) → IsCaused before after c
-unloaded_caused holds name before after (Refused refusal) u k = tt
-unloaded_caused holds name before after NotRead u k = k refl
-unloaded_caused holds name before after NoMemory u k = tt
-unloaded_caused holds name before after _ u k = absurd u
 
 -- ---- no memory for the note
 

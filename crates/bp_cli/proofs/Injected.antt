@@ -17,7 +17,7 @@ use Rattle.bp_session.specs.Reports.{BrokeAt}
 use Rattle.bp_log.specs.Verdicts.{IsQuiet}
 use Rattle.bp_cli.specs.Injected.{AreUnder, MergeWhole, BreaksIn}
 use Rattle.bp_cli.specs.inner.Opening.{AreOpened}
-use Rattle.bp_cli.specs.Outside.{IsUnder}
+use Rattle.bp_loading.specs.Loading.{IsUnder}
 
 -- what an input had at the start is what the world holds
 held_all : (o : Option (List ℕ)) (bytes : List ℕ) → IsSome o → IfSome o (λ all. all ≡ bytes) → o ≡ Some bytes

@@ -1,44 +1,26 @@
 -- Programs that are refused.
-use Rattle.std.proofs.Common.{◌≡◌, ◌∙◌, ℕ, zero, suc, ◌<◌, List, [], ◌∷◌, length, refl, sym, ap, subst, arith, inl, inr}
+use Rattle.std.proofs.Common.{◌≡◌, ◌∙◌, ℕ, List, refl, sym, ap, subst, inl, inr}
 use Rattle.std.proofs.lemmas.Option.{same_Some, none-some}
-use Rattle.std.specs.Prelude.{◌⊎◌, Option, Some, None, IsSome, IfSome, option_and_then}
-use Rattle.bp_base.specs.Worlds.{Holdings, Opens}
+use Rattle.std.specs.Prelude.{◌⊎◌, Option, Some, None, IfSome, option_and_then}
+use Rattle.bp_base.specs.Worlds.{Holdings}
 use Rattle.js_program.specs.PlainProgram.{PlainProgram}
-use Rattle.bp_log.specs.declared.limits.TheConstants.{MOST_BYTES}
 use Rattle.bp_log.specs.declared.record.Record.{Record}
 use Rattle.bp_script.specs.Programs.{IsProgram, IsRefused}
 use Rattle.bp_script.specs.declared.refusal.Refusal.{Refusal}
-use Rattle.bp_script.specs.Faults.{IsScriptFault}
-use Rattle.bp_script.specs.declared.reading.ScriptFault.{ScriptFault}
 use Rattle.bp_script.proofs.Once.{never}
+use Rattle.bp_loading.specs.Loading.{IsUnder}
 use Rattle.bp_args.specs.declared.command.Command.{Command}
 use Rattle.bp_args.specs.declared.command.Command.TheVariants as command
 use Rattle.bp_args.specs.declared.command.Run.{Run}
 use Rattle.bp_cli.specs.declared.conclusion.Conclusion.{Conclusion}
 use Rattle.bp_cli.specs.declared.conclusion.Conclusion.TheVariants.{Refused, Accepted, Ran, NotRead, NotWritten, NoMemory}
-use Rattle.bp_cli.specs.Outside.{Outside, IsUnder}
+use Rattle.bp_cli.specs.Outside.{Outside}
 use Rattle.bp_cli.specs.Conclusions.{status_of}
-use Rattle.bp_cli.specs.inner.Outcomes.{conclusion_of}
 use Rattle.bp_cli.specs.Asking.{WasAskedAtMost, AsksIn}
 use Rattle.bp_cli.specs.Texts.{IsAcceptedUnder}
 use Rattle.bp_cli.specs.Endings.{IsUnread, Does, EndsIn, Ends}
 use Rattle.bp_cli.proofs.Asking.{refused_asked, one_asked_at_most}
-use Rattle.bp_cli.specs.inner.Unloaded.{IsUnloaded, IsTooLong}
 use Rattle.bp_cli.specs.Refusing.{program_of, Refuses}
-
--- ---- too long
-
-longer : (n : ℕ) → (bytes : List ℕ) × (n < length bytes)
-longer zero = (0 ∷ [], omega arith)
-longer (suc n) = let l = longer n in let h = l.1 in (0 ∷ l.0, omega (arith, h))
-
--- what is left of an input that is too long is what the world holds
-pub too_long : (holds : Option Holdings) (name : List ℕ) (left : Option (List ℕ)) (limit : ℕ) → Opens holds name left →
-    limit ≡ MOST_BYTES → IfSome left (λ bytes. limit < length bytes) → IsTooLong holds name
-too_long None name left limit o e h = let l = longer MOST_BYTES in (l.0, tt, l.1)
-too_long (Some held) name (Some bytes) limit o e h = (bytes, sym o.1, subst (λ (n : ℕ). n < length bytes) e h)
-too_long (Some held) name None limit o e h =
-    let f : IsSome {T = List ℕ} None = subst (λ (x : Option (List ℕ)). IsSome x) (sym o.1) o.0 in cc
 
 -- ---- refused
 
@@ -75,16 +57,6 @@ held_accepted name bytes program before after status u p held found refusal h b 
 -- no other name was asked for
 held_refused : (name : List ℕ) (before after : Outside) (status : ℕ) → WasAskedAtMost before.asked name after.asked → Answers status → IsToRefuse name before after status
 held_refused name before after status a s held bytes refusal h b r = (a, s)
-
--- why a program is not accepted
-pub unloaded_fault : (holds : Option Holdings) (name bytes : List ℕ) (fault : ScriptFault) (c : Conclusion) → c ≡ conclusion_of fault → IsUnder holds name bytes → IsScriptFault bytes fault → IsUnloaded holds name c
-unloaded_fault holds name bytes (ScriptFault.Refused refusal) c e u f = subst (λ (x : Conclusion). IsUnloaded holds name x) (sym e) (bytes, u, f)
-unloaded_fault holds name bytes ScriptFault.Memory c e u f = subst (λ (x : Conclusion). IsUnloaded holds name x) (sym e) tt
-
--- that is a refusal, a failure or out of memory
-pub fault_read : (fault : ScriptFault) (c : Conclusion) → c ≡ conclusion_of fault → c ≡ NotRead → ⊥
-fault_read (ScriptFault.Refused refusal) c e n = cc
-fault_read ScriptFault.Memory c e n = cc
 
 -- ---- a command on a refused program
 

@@ -3,7 +3,7 @@ use Rattle.std.specs.Prelude.{◌≡◌, ℕ, List, [], codes}
 use Rattle.bp_log.specs.Verdicts.{kind_of}
 use Rattle.bp_log.specs.declared.verdict.VerdictKind.{VerdictKind}
 use Rattle.bp_log.specs.declared.verdict.VerdictKind.TheVariants as kind
-use Rattle.bp_notes.specs.Notes.{bad_log_note}
+use Rattle.bp_replay.specs.Notes.{bad_log_note}
 use Rattle.bp_script.specs.Refusals as refusals
 use Rattle.bp_cli.specs.declared.conclusion.Conclusion.{Conclusion}
 use Rattle.bp_cli.specs.declared.conclusion.Conclusion.TheVariants.{NoCommand, Refused, Accepted, Ran, NotRead, NotWritten, NoMemory, BadLog, Migrated}

@@ -1,14 +1,14 @@
 -- Why a command ends as it does, and what came of it outside.
 use Rattle.std.specs.Prelude.{◌≡◌, ◌⊎◌, ℕ, List, [], Option, Some, None, IfSome}
 use Rattle.bp_log.specs.declared.record.Record.{Record}
+use Rattle.bp_loading.specs.Loading.{IsUnder, IsRefusedUnder}
 use Rattle.bp_args.specs.declared.command.Command.{Command}
 use Rattle.bp_args.specs.declared.command.Command.TheVariants.{Run, Replay, Accept, Large, Migrate}
 use Rattle.bp_cli.specs.declared.conclusion.Conclusion.{Conclusion}
 use Rattle.bp_cli.specs.declared.conclusion.Conclusion.TheVariants.{NoCommand, Refused, Accepted, Ran, NotRead, NotWritten, NoMemory, BadLog, Migrated}
-use Rattle.bp_cli.specs.Outside.{Outside, ReadFailed, WriteFailed, IsAsBefore, IsUnder}
+use Rattle.bp_cli.specs.Outside.{Outside, ReadFailed, WriteFailed, IsAsBefore}
 use Rattle.bp_cli.specs.Texts.{IsAcceptedUnder, SaysAccepted}
 use Rattle.bp_cli.specs.Runs.{IsRunOf}
-use Rattle.bp_cli.specs.Refusing.{IsRefusedUnder}
 use Rattle.bp_cli.specs.Large.{Measures}
 use Rattle.bp_cli.specs.Conclusions.{IsStatusOf}
 use Rattle.bp_cli.specs.Asking.{names_of, WasAskedSome, WasAskedAtMost, AsksIn}

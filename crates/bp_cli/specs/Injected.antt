@@ -7,7 +7,7 @@ use Rattle.bp_log.specs.declared.item.Item.TheVariants.{Failed}
 use Rattle.bp_log.specs.declared.record.Record.{Record}
 use Rattle.bp_feeds.specs.Items.{items, items_before_fault}
 use Rattle.bp_steps.specs.Merging.{items_by}
-use Rattle.bp_cli.specs.Outside.{IsUnder}
+use Rattle.bp_loading.specs.Loading.{IsUnder}
 
 -- these inputs, one after another, are what the world holds under the names, where it tells what it
 -- holds

@@ -1,5 +1,5 @@
 -- What a command finds outside, and what it leaves there.
-use Rattle.std.specs.Prelude.{◌≡◌, ◌⊎◌, ◌≤◌, ℕ, List, Option, Some, IfSome}
+use Rattle.std.specs.Prelude.{◌≡◌, ◌⊎◌, ◌≤◌, ℕ, List, Option}
 use Rattle.bp_base.specs.Counts.{Rose}
 use Rattle.bp_base.specs.Worlds.{Holdings}
 
@@ -44,7 +44,3 @@ NeverFalls before after =
 -- nothing was printed, and the world holds what it held
 abbrev pub IsAsBefore : Outside → Outside → Type 0
 IsAsBefore before after = (after.printed ≡ before.printed) × (after.holds ≡ before.holds)
-
--- these are the bytes that the world holds under the name, where it tells what it holds
-abbrev pub IsUnder : Option Holdings → List ℕ → List ℕ → Type 0
-IsUnder holds name bytes = IfSome holds (λ held. held name ≡ Some bytes)

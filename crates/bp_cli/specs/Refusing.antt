@@ -1,17 +1,11 @@
 -- Refused programs, which are not run.
 use Rattle.std.specs.Prelude.{◌≡◌, ◌⊎◌, ℕ, List, Option, Some, None, IfSome, option_and_then}
-use Rattle.bp_base.specs.Worlds.{Holdings}
 use Rattle.bp_script.specs.declared.refusal.Refusal.{Refusal}
 use Rattle.bp_script.specs.Programs.{IsRefused}
 use Rattle.bp_args.specs.declared.command.Command.{Command}
 use Rattle.bp_args.specs.declared.command.Command.TheVariants.{Run, Accept}
-use Rattle.bp_cli.specs.Outside.{Outside, IsUnder}
+use Rattle.bp_cli.specs.Outside.{Outside}
 use Rattle.bp_cli.specs.Asking.{WasAskedAtMost}
-
--- the program of that name is refused so
-abbrev pub IsRefusedUnder : Option Holdings → List ℕ → Refusal → Type 0
-IsRefusedUnder holds name refusal =
-    (bytes : List ℕ) × IsUnder holds name bytes × IsRefused bytes refusal
 
 -- the name of the program that a command is to run or to accept
 abbrev pub program_of : Command → Option (List ℕ)

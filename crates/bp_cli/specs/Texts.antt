@@ -4,9 +4,10 @@ use Rattle.bp_base.specs.Pieces.{Appends, AppendsFront}
 use Rattle.bp_base.specs.Worlds.{Holdings}
 use Rattle.js_program.specs.PlainProgram.{PlainProgram}
 use Rattle.bp_script.specs.Programs.{IsProgram}
+use Rattle.bp_loading.specs.Loading.{IsUnder}
 use Rattle.bp_cli.specs.declared.conclusion.Conclusion.{Conclusion}
 use Rattle.bp_cli.specs.declared.conclusion.Conclusion.TheVariants.{Accepted, Ran, NotWritten, NoMemory}
-use Rattle.bp_cli.specs.Outside.{Outside, WriteFailed, IsUnder}
+use Rattle.bp_cli.specs.Outside.{Outside, WriteFailed}
 
 -- the bytes are an accepted program
 abbrev pub IsAccepted : List ℕ → Type 0

@@ -1,5 +1,4 @@
 -- What the contracts inside of this crate cite, and nothing that a command is promised by.
 pub mod Opening
 pub mod Outcomes
-pub mod Unloaded
 pub mod Measured

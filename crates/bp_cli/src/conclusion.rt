@@ -1,23 +1,20 @@
 //! How a command ends.
 ghost use Rattle.std.specs.Prelude.{◌≡◌, true, IfOk, OnErr, unwrap_or};
 ghost use Rattle.bp_cli.specs.Conclusions.{status_of, note_of, verdict_status};
-ghost use Rattle.bp_cli.specs.inner.Outcomes.{has_note, conclusion_of, ended_of, unopened_of, unmade_of};
+ghost use Rattle.bp_cli.specs.inner.Outcomes.{has_note, ended_of, unopened_of, unmade_of};
 ghost use Rattle.bp_cli.specs.Replaying.{trouble_of as trouble_in, replayed_of};
 ghost use Rattle.bp_cli.specs.Migrating.{as_replayed, migrated_of};
 
 use bp_base::WorldError;
+use bp_loading::{NO_MEMORY, Unloaded};
 use bp_log::{Memory, Verdict, VerdictKind};
 use bp_migrate::MigrateFault;
-use bp_notes::bad_log_note;
 use bp_reader::LogFault;
-use bp_replay::ReplayFault;
-use bp_script::{Refusal, ScriptFault};
+use bp_replay::{ReplayFault, bad_log_note};
+use bp_script::Refusal;
 use bp_session::Ending;
 use js_data::Text;
 use std::alloc::Global;
-
-/// The status of a command that ran out of memory.
-pub const NO_MEMORY: u8 = 10;
 
 /// The note for words that are not a command.
 const USAGE: &str =
@@ -67,16 +64,17 @@ impl Drop for Conclusion {
     }
 }
 
-impl From<ScriptFault> for Conclusion {
+impl From<Unloaded> for Conclusion {
     ghost use Rattle.std.specs.Prelude.{◌≡◌};
-    ghost use Rattle.bp_cli.specs.inner.Outcomes.{conclusion_of};
+    ghost use Rattle.bp_cli.specs.inner.Outcomes.{unloaded_of};
 
-    ghost from_gives = { λ f c. c ≡ conclusion_of f };
+    ghost from_gives = { λ u c. c ≡ unloaded_of u };
 
-    fn from(fault: ScriptFault) -> Conclusion {
-        match fault {
-            ScriptFault::Refused(refusal) => Conclusion::Refused(refusal),
-            ScriptFault::Memory => Conclusion::NoMemory,
+    fn from(why: Unloaded) -> Conclusion {
+        match why {
+            Unloaded::Refused(refusal) => Conclusion::Refused(refusal),
+            Unloaded::NotRead => Conclusion::NotRead,
+            Unloaded::NoMemory => Conclusion::NoMemory,
         }
     }
 }

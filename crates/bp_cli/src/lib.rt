@@ -5,7 +5,6 @@ mod commands;
 mod conclusion;
 mod ended;
 mod large;
-mod loading;
 mod migrating;
 mod opening;
 mod programs;
@@ -14,5 +13,4 @@ mod running;
 mod status;
 
 pub use commands::command;
-pub use conclusion::NO_MEMORY;
 pub use status::Status;

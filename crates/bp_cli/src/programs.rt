@@ -8,11 +8,11 @@ ghost use Rattle.bp_cli.specs.Outside.{outside, NeverFalls};
 
 use crate::conclusion::Conclusion;
 use crate::ended::Ended;
-use crate::loading::load;
 use crate::opening::{close_inputs, create_log, open_inputs};
 use crate::running::run_opened;
 use bp_args::Run;
 use bp_base::{Sink, World, write_all};
+use bp_loading::load;
 use js_data::Text;
 use std::alloc::Global;
 use std::sync::Wait;
@@ -43,7 +43,7 @@ pub(crate) fn run_program<R: Threads + Wait + Sync + Clock, W: World, K: Sink>(
 {
     let loaded = match load(alloc, world, asked.program.as_str()) {
         Ok(loaded) => loaded,
-        Err(conclusion) => return Ended::without_run(alloc, conclusion),
+        Err(why) => return Ended::without_run(alloc, Conclusion::from(why)),
     };
     let inputs = match open_inputs(alloc, world, asked.injectors.as_slice()) {
         Ok(inputs) => inputs,
@@ -76,7 +76,7 @@ pub(crate) fn accept_program<W: World, K: Sink>(
 {
     let _loaded = match load(alloc, world, name.as_str()) {
         Ok(loaded) => loaded,
-        Err(conclusion) => return conclusion,
+        Err(why) => return Conclusion::from(why),
     };
     match write_all(out, ACCEPTED) {
         Ok(()) => Conclusion::Accepted,

@@ -10,10 +10,10 @@ ghost use Rattle.bp_cli.specs.Runs.{IsRunOf};
 
 use crate::conclusion::Conclusion;
 use crate::ended::Ended;
-use crate::loading::Loaded;
 use crate::opening::{close_inputs, close_log};
 use bp_args::Run;
 use bp_base::{Sink, World};
+use bp_loading::Loaded;
 use bp_log::Header;
 use bp_records::{header_keeps, records_keep};
 use bp_session::{Report, Session};
@@ -51,7 +51,7 @@ pub(crate) fn run_opened<R: Threads + Wait + Sync + Clock, W: World, K: Sink>(
     ensures counts { let seen = outside W.holds W.asked W.read_faults W.write_faults
         K.written K.faults in NeverFalls (seen world.old out.old) (seen world.new out.new) }
 {
-    let (program, bytes) = loaded.into_parts();
+    let Loaded { program, bytes } = loaded;
     let Some(header) = Header::new(asked.options, bytes) else {
         unreachable!()
     };

@@ -8,3 +8,4 @@ pub mod Shows
 pub mod Loop
 pub mod Opened
 pub mod Alike
+pub mod VerdictLines

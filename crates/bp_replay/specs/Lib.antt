@@ -5,3 +5,4 @@ pub mod Faults
 pub mod Courses
 pub mod Endings
 pub mod Following
+pub mod Notes

@@ -4,7 +4,7 @@ ghost use Rattle.bp_log.specs.Texts.{place_text};
 ghost use Rattle.bp_explain.specs.Seeds.{kind_text};
 
 use bp_log::{Memory, Place, Verdict};
-use bp_notes::verdict_text_of;
+use bp_replay::verdict_text_of;
 use js_data::Text;
 use js_json::quoted;
 use std::alloc::Global;

@@ -1,8 +1,9 @@
 //! `bpx`: says what of behavioral programs is to be known beside their runs.
 #![tactic(auto)]
 
+use bp_loading::NO_MEMORY;
 use bp_system::{Process, StreamSink, leave};
-use bpx_cli::{NO_MEMORY, answer};
+use bpx_cli::answer;
 use std::io;
 use std::process::ExitCode;
 

@@ -1,3 +1,5 @@
-pub mod Loads
+mod RequestRows
+mod WhyRows
+pub mod Splits
 pub mod Tells
 pub mod Said

@@ -1,25 +1,22 @@
 -- What `bpx` prints for what is asked, and how it ends.
-use Rattle.std.specs.Prelude.{◌≡◌, ◌⊎◌, ℕ, List, [], ◌∷◌, Option, Some, None, IfSome}
+use Rattle.std.specs.Prelude.{◌≡◌, ◌⊎◌, ℕ, List, [], ◌∷◌, Option, Some, None}
 use Rattle.bp_base.specs.Worlds.{Holdings}
 use Rattle.bp_base.specs.Pieces.{Appends, AppendsFront}
 use Rattle.js_program.specs.PlainProgram.{PlainProgram}
-use Rattle.bp_script.specs.declared.refusal.Refusal.{Refusal}
-use Rattle.bp_script.specs.Programs.{IsProgram, IsRefused}
+use Rattle.bp_script.specs.Programs.{IsProgram}
+use Rattle.bp_loading.specs.Loading.{IsUnder, IsUnloaded}
+use Rattle.bp_loading.specs.declared.unloaded.Unloaded.{Unloaded}
 use Rattle.bp_check.specs.Findings.{Finding, findings}
 use Rattle.bp_check.specs.Sentences.{check_text}
 use Rattle.bp_explain.specs.Seeds.{seeds_of}
-use Rattle.bpx_words.specs.Seeds.{PlainSeeds}
-use Rattle.bpx_words.specs.declared.request.Request.{Request}
-use Rattle.bpx_words.specs.declared.request.Request.TheVariants as request
+use Rattle.bpx_cli.specs.SeedsAsked.{PlainSeeds}
+use Rattle.bpx_cli.specs.declared.request.Request.{Request}
+use Rattle.bpx_cli.specs.declared.request.Request.TheVariants as request
 use Rattle.bpx_cli.specs.States.{IsStateOf, IsUnstated}
 use Rattle.bpx_cli.specs.Whys.{IsWhyOf, IsUnexplained}
 use Rattle.bpx_cli.specs.declared.ended.Ended.{Ended}
 use Rattle.bpx_cli.specs.declared.ended.Ended.TheVariants.{Answered, Found, NoCommand, Refused, Absent, NotRead, NotWritten, NoMemory, BadLog}
-use Rattle.bpx_words.specs.declared.help.TheConstants.{HELP}
-
--- these are the bytes under the name, where the world tells what it holds
-abbrev pub IsUnder : Option Holdings → List ℕ → List ℕ → Type 0
-IsUnder holds name bytes = IfSome holds (λ held. held name ≡ Some bytes)
+use Rattle.bpx_cli.specs.declared.help.TheConstants.{HELP}
 
 -- the bytes under the name are this program
 pub record IsProgramOf (holds : Option Holdings) (name : List ℕ) (program : PlainProgram) : Type 0 where
@@ -27,18 +24,17 @@ pub record IsProgramOf (holds : Option Holdings) (name : List ℕ) (program : Pl
   pub under : IsUnder holds name bytes
   pub accepted : IsProgram bytes program
 
--- the bytes under the name are refused so
-pub record IsRefusedOf (holds : Option Holdings) (name : List ℕ) (refusal : Refusal) : Type 0 where
-  pub bytes : List ℕ
-  pub under : IsUnder holds name bytes
-  pub refused : IsRefused bytes refusal
+-- what comes of a program that was not loaded
+abbrev pub unloaded_of : Unloaded → Ended
+unloaded_of (Unloaded.Refused refusal) = Refused refusal
+unloaded_of Unloaded.NotRead = NotRead
+unloaded_of Unloaded.NoMemory = NoMemory
 
--- why there is not an accepted program of that name: it is refused, or was not read
-abbrev pub IsUnloaded : Option Holdings → List ℕ → Ended → Type 0
-IsUnloaded holds name (Refused refusal) = IsRefusedOf holds name refusal
-IsUnloaded holds name NotRead = Unit {0}
-IsUnloaded holds name NoMemory = Unit {0}
-IsUnloaded holds name _ = ⊥
+-- no program of that name was loaded, and a command ends so
+pub record EndsUnloaded (holds : Option Holdings) (name : List ℕ) (end : Ended) : Type 0 where
+  pub why : Unloaded
+  pub unloaded : IsUnloaded holds name why
+  pub ends : end ≡ unloaded_of why
 
 abbrev pub checked : List Finding → Ended
 checked [] = Answered
@@ -72,10 +68,10 @@ Answers holds (request.Seeds s) text end = AreSeedsOf holds s text × (end ≡ A
 -- nothing answers it: its program is refused, its log has not what is asked about, or it was not read, or memory ran out
 abbrev pub IsUnanswered : Option Holdings → Request → Ended → Type 0
 IsUnanswered holds request.Help end = end ≡ NoMemory
-IsUnanswered holds (request.Check name) end = IsUnloaded holds name end
+IsUnanswered holds (request.Check name) end = EndsUnloaded holds name end
 IsUnanswered holds (request.State s) end = IsUnstated holds s end
 IsUnanswered holds (request.Why w) end = IsUnexplained holds w end
-IsUnanswered holds (request.Seeds s) end = IsUnloaded holds s.program end
+IsUnanswered holds (request.Seeds s) end = EndsUnloaded holds s.program end
 
 -- this was printed after what was, and answers what is asked
 pub record IsAnswered (holds : Option Holdings) (asked : Request)

@@ -1,3 +1,7 @@
+pub mod Requests
+pub mod StateAsked
+pub mod WhyAsked
+pub mod SeedsAsked
 pub mod Logs
 pub mod States
 pub mod Statuses

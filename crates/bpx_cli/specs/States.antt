@@ -2,7 +2,7 @@
 use Rattle.std.specs.Prelude.{ℕ, List, Option}
 use Rattle.bp_base.specs.Worlds.{Holdings}
 use Rattle.bp_answers.specs.Asking.{IsState}
-use Rattle.bpx_words.specs.declared.state.State.{State}
+use Rattle.bpx_cli.specs.declared.state.State.{State}
 use Rattle.bpx_cli.specs.declared.ended.Ended.{Ended}
 use Rattle.bpx_cli.specs.Logs.{About, IsSaidOf, IsUnsaid}
 

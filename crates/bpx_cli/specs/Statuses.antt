@@ -1,10 +1,10 @@
 -- Statuses and notes.
 use Rattle.std.specs.Prelude.{ℕ, List, [], codes}
-use Rattle.bp_notes.specs.Notes.{bad_log_note}
+use Rattle.bp_replay.specs.Notes.{bad_log_note}
 use Rattle.bp_script.specs.Refusals.{note_of as refusal_note}
 use Rattle.bpx_cli.specs.declared.ended.Ended.{Ended}
 use Rattle.bpx_cli.specs.declared.ended.Ended.TheVariants.{Answered, Found, NoCommand, Refused, Absent, NotRead, NotWritten, NoMemory, BadLog}
-use Rattle.bpx_words.specs.declared.help.TheConstants.{USAGE}
+use Rattle.bpx_cli.specs.declared.help.TheConstants.{USAGE}
 
 abbrev pub status_of : Ended → ℕ
 status_of Answered = 0

@@ -2,7 +2,7 @@
 use Rattle.std.specs.Prelude.{ℕ, List, Option}
 use Rattle.bp_base.specs.Worlds.{Holdings}
 use Rattle.bp_answers.specs.Whys.{IsWhy}
-use Rattle.bpx_words.specs.declared.why.Why.{Why}
+use Rattle.bpx_cli.specs.declared.why.Why.{Why}
 use Rattle.bpx_cli.specs.declared.ended.Ended.{Ended}
 use Rattle.bpx_cli.specs.Logs.{About, IsSaidOf, IsUnsaid}
 

@@ -1,3 +1,2 @@
 -- What the contracts inside of this crate cite, and nothing that an answer of `bpx` is promised by.
-pub mod Loading
 pub mod Ends

@@ -1,19 +1,21 @@
 //! What is asked for, and its answer.
 ghost use Rattle.std.specs.Prelude.{◌≡◌, ◌≤◌, IsErrOf, IfOk, IfErr, map, string_bytes};
 ghost use Rattle.bp_base.specs.Counts.{Rose};
-ghost use Rattle.bpx_words.specs.Requests.{request_of};
+ghost use Rattle.bpx_cli.specs.Requests.{request_of};
 ghost use Rattle.bpx_cli.specs.inner.Ends.{ended_by};
-ghost use Rattle.bpx_cli.specs.Answers.{Answers, IsUnanswered, IsUnloaded, IsChecked, IsCheckOf, EndsAs, Ends};
+ghost use Rattle.bpx_cli.specs.Answers.{Answers, IsUnanswered, EndsUnloaded, IsChecked, IsCheckOf, EndsAs, Ends};
 
 use crate::ended::{Ended, Reply};
-use crate::loading::load;
+use crate::help::HELP;
 use crate::reasoning::why_reply;
+use crate::request::{Request, read};
 use crate::seeding::seeds_reply;
 use crate::stating::state_reply;
+use bp_args::Usage;
 use bp_base::{Sink, World, write_all};
 use bp_check::check;
+use bp_loading::load;
 use bp_log::Memory;
-use bpx_words::{HELP, Request, Usage, read};
 use js_data::Text;
 use js_program::Program;
 use std::alloc::Global;
@@ -43,14 +45,14 @@ fn checked(alloc: Global, program: &Program) -> Result<Reply, Memory>
 fn check_reply<W: World>(alloc: Global, name: &Text, world: &mut W) -> Result<Reply, Ended>
     ensures answers { IfOk result
         (λ a. IsCheckOf (W.holds world.old) name.now (string_bytes a.text) a.end) }
-    ensures unanswered { IfErr result (IsUnloaded (W.holds world.old) name.now) }
+    ensures unanswered { IfErr result (EndsUnloaded (W.holds world.old) name.now) }
     ensures cause { IsErrOf result Ended.NotRead
         → Rose (W.read_faults world.old) (W.read_faults world.new) }
     ensures holds { W.holds world.new ≡ W.holds world.old }
     ensures counts { W.read_faults world.old ≤ W.read_faults world.new }
 {
-    let program = load(alloc, world, name.as_str())?;
-    match checked(alloc, &program) {
+    let loaded = load(alloc, world, name.as_str())?;
+    match checked(alloc, &loaded.program) {
         Ok(answer) => Ok(answer),
         Err(_) => Err(Ended::NoMemory),
     }

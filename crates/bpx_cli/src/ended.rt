@@ -4,18 +4,15 @@ ghost use Rattle.bpx_cli.specs.Statuses.{note_of, status_of};
 ghost use Rattle.bpx_cli.specs.inner.Ends.{ended_of_log};
 ghost use Rattle.bpx_cli.specs.Logs.{trouble_of};
 
+use crate::help::USAGE;
 use bp_answers::NoAnswer;
+use bp_loading::{NO_MEMORY, Unloaded};
 use bp_log::Memory;
-use bp_notes::bad_log_note;
 use bp_reader::LogFault;
-use bp_replay::ReplayFault;
+use bp_replay::{ReplayFault, bad_log_note};
 use bp_script::Refusal;
-use bpx_words::USAGE;
 use js_data::Text;
 use std::alloc::Global;
-
-/// The status of a command that ran out of memory.
-pub const NO_MEMORY: u8 = 10;
 
 /// A text, and how the command ends that prints it.
 #[derive(Drop)]
@@ -45,6 +42,21 @@ pub enum Ended {
     NoMemory,
     /// The log is none, its program is refused, or it differs from its run.
     BadLog(ReplayFault),
+}
+
+impl From<Unloaded> for Ended {
+    ghost use Rattle.std.specs.Prelude.{◌≡◌};
+    ghost use Rattle.bpx_cli.specs.Answers.{unloaded_of};
+
+    ghost from_gives = { λ u e. e ≡ unloaded_of u };
+
+    fn from(why: Unloaded) -> Ended {
+        match why {
+            Unloaded::Refused(refusal) => Ended::Refused(refusal),
+            Unloaded::NotRead => Ended::NotRead,
+            Unloaded::NoMemory => Ended::NoMemory,
+        }
+    }
 }
 
 /// How a command ends where reading a log failed or memory ran out.

@@ -3,11 +3,16 @@
 
 mod answering;
 mod asking;
+mod behind;
 mod ended;
-mod loading;
+mod help;
 mod reasoning;
+mod request;
 mod seeding;
+mod seeds;
+mod state;
 mod stating;
+mod why;
 
 pub use answering::answer;
-pub use ended::{Ended, NO_MEMORY};
+pub use ended::Ended;

@@ -5,9 +5,9 @@ ghost use Rattle.bpx_cli.specs.Whys.{IsWhyOf, IsUnexplained};
 
 use crate::asking::{open_log, reply_of};
 use crate::ended::{Ended, Reply};
+use crate::why::Why;
 use bp_answers::{Answer, why};
 use bp_base::World;
-use bpx_words::Why;
 use std::alloc::Global;
 
 /// What the log of that name answers, or how a command ends that tells nothing.

@@ -2,13 +2,13 @@
 ghost use Rattle.std.specs.Prelude.{◌≡◌, ◌≤◌, IsErrOf, IfOk, IfErr, string_bytes};
 ghost use Rattle.bp_base.specs.Counts.{Rose};
 ghost use Rattle.bp_seeds.specs.Sweeps.{IsSweep};
-ghost use Rattle.bpx_cli.specs.Answers.{AreSeedsOf, IsUnloaded};
+ghost use Rattle.bpx_cli.specs.Answers.{AreSeedsOf, EndsUnloaded};
 
 use crate::ended::{Ended, Reply};
-use crate::loading::script;
+use crate::seeds::Seeds;
 use bp_base::World;
+use bp_loading::load;
 use bp_seeds::{Sweep, sweep_text};
-use bpx_words::Seeds;
 use std::alloc::Global;
 use std::thread::Threads;
 
@@ -37,14 +37,14 @@ pub(crate) fn seeds_reply<R: Threads + Sync, W: World>(
 ) -> Result<Reply, Ended>
     ensures answers { IfOk result (λ a.
         AreSeedsOf (W.holds world.old) asked.now (string_bytes a.text) × (a.end ≡ Ended.Answered)) }
-    ensures unanswered { IfErr result (IsUnloaded (W.holds world.old) (asked.now).program) }
+    ensures unanswered { IfErr result (EndsUnloaded (W.holds world.old) (asked.now).program) }
     ensures cause { IsErrOf result Ended.NotRead
         → Rose (W.read_faults world.old) (W.read_faults world.new) }
     ensures holds { W.holds world.new ≡ W.holds world.old }
     ensures counts { W.read_faults world.old ≤ W.read_faults world.new }
 {
-    let bytes = script(alloc, world, asked.program().as_str())?;
-    match sweep_text(rt, alloc, bytes.as_slice(), &sweep_of(asked)) {
+    let loaded = load(alloc, world, asked.program().as_str())?;
+    match sweep_text(rt, alloc, loaded.bytes.as_slice(), &sweep_of(asked)) {
         Ok(text) => Ok(Reply {
             text,
             end: Ended::Answered,

@@ -5,9 +5,9 @@ ghost use Rattle.bpx_cli.specs.States.{IsStateOf, IsUnstated};
 
 use crate::asking::{open_log, reply_of};
 use crate::ended::{Ended, Reply};
+use crate::state::State;
 use bp_answers::{Answer, state};
 use bp_base::World;
-use bpx_words::State;
 use std::alloc::Global;
 
 /// The state after records of the log of that name, or how a command ends that tells none.

@@ -1,7 +1,7 @@
 -- What comes of the parts of a command.
 use Rattle.std.specs.Prelude.{Bool, true, false}
 use Rattle.bp_base.specs.declared.outside.WorldError.{WorldError}
-use Rattle.bp_script.specs.declared.reading.ScriptFault.{ScriptFault}
+use Rattle.bp_loading.specs.declared.unloaded.Unloaded.{Unloaded}
 use Rattle.bp_session.specs.declared.report.Ending.{Ending}
 use Rattle.bp_cli.specs.declared.conclusion.Conclusion.{Conclusion}
 use Rattle.bp_cli.specs.declared.conclusion.Conclusion.TheVariants.{NoCommand, Refused, Ran, NotRead, NotWritten, NoMemory, BadLog}
@@ -32,7 +32,8 @@ abbrev pub unmade_of : WorldError → Conclusion
 unmade_of WorldError.Failed = NotWritten
 unmade_of WorldError.Memory = NoMemory
 
--- what comes of a program that is not accepted
-abbrev pub conclusion_of : ScriptFault → Conclusion
-conclusion_of (ScriptFault.Refused refusal) = Refused refusal
-conclusion_of ScriptFault.Memory = NoMemory
+-- what comes of a program that was not loaded
+abbrev pub unloaded_of : Unloaded → Conclusion
+unloaded_of (Unloaded.Refused refusal) = Refused refusal
+unloaded_of Unloaded.NotRead = NotRead
+unloaded_of Unloaded.NoMemory = NoMemory

@@ -1,11 +1,12 @@
 use Rattle.std.proofs.Common.{Err, List, ℕ, [], ◌∷◌, ap, inl, inr, refl, sym, subst}
 use Rattle.bp_args.specs.declared.command.Command.TheVariants as command
 use Rattle.bp_base.specs.Worlds.{Asks}
-use Rattle.bp_cli.specs.declared.conclusion.Conclusion.{Conclusion}
+use Rattle.bp_loading.specs.Loading.{IsUnder}
+use Rattle.bp_loading.specs.declared.unloaded.Unloaded.{Unloaded}
 use Rattle.bp_cli.specs.declared.conclusion.Conclusion.TheVariants.{Accepted, NotWritten}
-use Rattle.bp_cli.specs.Outside.{outside, IsUnder}
+use Rattle.bp_cli.specs.Outside.{outside}
 use Rattle.bp_cli.proofs.Asking.{asks_unloaded, asks_one, asked_err, asked_ok}
-use Rattle.bp_cli.proofs.Endings.{accept_unloaded, unloaded_caused}
+use Rattle.bp_cli.proofs.Endings.{accept_unloaded}
 use Rattle.bp_cli.proofs.programs.accept_program.Goals as goal
 
 pub returns-in-Err-clause-ends : goal.returns-in-Err-clause-ends
@@ -13,13 +14,13 @@ returns-in-Err-clause-ends g c =
     let seen = outside g.W.World.holds g.W.World.asked g.W.World.read_faults g.W.World.write_faults g.K.Sink.written g.K.Sink.faults in
     let before = seen c.args.world.now c.args.out.now in
     let after = seen c.load.new.world c.args.out.now in
-    accept_unloaded c.args.name.now c.as_str.result.now before after c.in-Err.conclusion c.as_str.ensures c.in-Err.ensures.unloaded
-    (unloaded_caused before.holds c.as_str.result.now before after c.in-Err.conclusion c.in-Err.ensures.unloaded (λ e. c.in-Err.ensures.cause (ap (λ (x : Conclusion). Err x) e))) (refl, c.load.ensures.holds)
+    accept_unloaded c.args.name.now c.as_str.result.now before after c.in-Err.why c.from.result c.as_str.ensures c.from.ensures c.in-Err.ensures.unloaded
+    (λ e. c.in-Err.ensures.cause (ap (λ (x : Unloaded). Err x) e)) (refl, c.load.ensures.holds)
 
 pub returns-in-Err-clause-asks : goal.returns-in-Err-clause-asks
 returns-in-Err-clause-asks g c =
-    asks_unloaded (command.Accept c.args.name.now) c.as_str.result.now [] _ _ _ c.in-Err.conclusion
-    (ap (λ (n : List ℕ). n ∷ []) (sym c.as_str.ensures)) c.in-Err.ensures.unloaded (asked_err c.in-Err.conclusion _ _ _ c.in-Err.ensures.asked)
+    asks_unloaded (command.Accept c.args.name.now) c.as_str.result.now [] _ _ c.in-Err.why c.from.result
+    (ap (λ (n : List ℕ). n ∷ []) (sym c.as_str.ensures)) c.from.ensures (asked_err c.in-Err.why _ _ _ c.in-Err.ensures.asked)
 
 pub returns-in-Ok-write_all-clause-ends : goal.returns-in-Ok-write_all-clause-ends
 returns-in-Ok-write_all-clause-ends g c =

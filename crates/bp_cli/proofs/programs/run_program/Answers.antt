@@ -1,16 +1,17 @@
-use Rattle.std.proofs.Common.{◌∙◌, ◌++◌, Some, Err, Option, List, ℕ, ◌∷◌, ap, inr, refl, sym, subst, take, arith}
+use Rattle.std.proofs.Common.{◌∙◌, ◌++◌, Err, Option, List, ℕ, ◌∷◌, ap, inr, refl, sym, subst, take, arith}
 use Rattle.std.specs.Prelude.{option_to_list}
 use Rattle.bp_args.specs.declared.command.Command.TheVariants as command
 use Rattle.bp_base.specs.Counts.{Rose}
 use Rattle.bp_base.specs.Worlds.{Holdings}
 use Rattle.bp_base.specs.declared.outside.WorldError.{WorldError}
-use Rattle.bp_cli.specs.declared.conclusion.Conclusion.{Conclusion}
+use Rattle.bp_loading.specs.Loading.{IsUnder}
+use Rattle.bp_loading.specs.declared.unloaded.Unloaded.{Unloaded}
 use Rattle.bp_cli.specs.declared.conclusion.Conclusion.TheVariants.{NotRead}
-use Rattle.bp_cli.specs.Asking.{WasAsked, AsksIn, names_of}
+use Rattle.bp_cli.specs.Asking.{WasAsked, names_of}
 use Rattle.bp_cli.specs.inner.Opening.{AreOpened}
-use Rattle.bp_cli.specs.Outside.{outside, IsUnder}
+use Rattle.bp_cli.specs.Outside.{outside}
 use Rattle.bp_cli.proofs.Asking.{IsBeforeLog, asks_unloaded, asked_err, asked_ok, asks_unopened, asks_unmade, asks_all, asks_run, log_unopened, log_unmade}
-use Rattle.bp_cli.proofs.Endings.{caused_on, does_run, unloaded_caused, run_unloaded, run_unopened, unmade_ends}
+use Rattle.bp_cli.proofs.Endings.{caused_on, does_run, run_unloaded, run_unopened, unmade_ends}
 use Rattle.bp_cli.proofs.programs.run_program.Goals as goal
 
 pub returns-in-Err-clause-ends : goal.returns-in-Err-clause-ends
@@ -18,17 +19,15 @@ returns-in-Err-clause-ends g c =
     let seen = outside g.W.World.holds g.W.World.asked g.W.World.read_faults g.W.World.write_faults g.K.Sink.written g.K.Sink.faults in
     let before = seen c.args.world.now c.args.out.now in
     let after = seen c.load.new.world c.args.out.now in
-    run_unloaded c.args.asked.now c.as_str.result.now c.without_run.result.records before after c.in-Err.conclusion c.without_run.result.conclusion c.without_run.ensures.records c.without_run.ensures.conclusion c.as_str.ensures c.in-Err.ensures.unloaded
-    (unloaded_caused before.holds c.as_str.result.now before after c.in-Err.conclusion c.in-Err.ensures.unloaded (λ e. c.in-Err.ensures.cause (ap (λ (x : Conclusion). Err x) e)))
-    (asked_err c.in-Err.conclusion _ _ _ c.in-Err.ensures.asked) (refl, c.load.ensures.holds)
+    run_unloaded c.args.asked.now c.as_str.result.now c.without_run.result.records before after c.in-Err.why c.without_run.result.conclusion c.without_run.ensures.records (c.without_run.ensures.conclusion ∙ c.from.ensures) c.as_str.ensures c.in-Err.ensures.unloaded
+    (λ e. c.in-Err.ensures.cause (ap (λ (x : Unloaded). Err x) e)) (asked_err c.in-Err.why _ _ _ c.in-Err.ensures.asked) (refl, c.load.ensures.holds)
 
 pub returns-in-Err-clause-asks : goal.returns-in-Err-clause-asks
 returns-in-Err-clause-asks g c =
     let asked = c.args.asked.now in
     let rest = asked.injectors ++ option_to_list asked.log in
-    subst (λ (k : Conclusion). AsksIn (Some (command.Run asked)) (g.W.World.asked c.args.world.now) (g.W.World.asked c.load.new.world) k) (sym c.without_run.ensures.conclusion)
-    (asks_unloaded (command.Run asked) c.as_str.result.now rest (g.W.World.holds c.args.world.now) (g.W.World.asked c.args.world.now) (g.W.World.asked c.load.new.world) c.in-Err.conclusion
-    (ap (λ (n : List ℕ). n ∷ rest) (sym c.as_str.ensures)) c.in-Err.ensures.unloaded (asked_err c.in-Err.conclusion _ _ _ c.in-Err.ensures.asked))
+    asks_unloaded (command.Run asked) c.as_str.result.now rest (g.W.World.asked c.args.world.now) (g.W.World.asked c.load.new.world) c.in-Err.why c.without_run.result.conclusion
+    (ap (λ (n : List ℕ). n ∷ rest) (sym c.as_str.ensures)) (c.without_run.ensures.conclusion ∙ c.from.ensures) (asked_err c.in-Err.why _ _ _ c.in-Err.ensures.asked)
 
 pub returns-in-Err-open_inputs-clause-ends : goal.returns-in-Err-open_inputs-clause-ends
 returns-in-Err-open_inputs-clause-ends g c =

@@ -1,19 +1,16 @@
 use Rattle.std.proofs.Common.{◌∙◌, List, ℕ, Option, ap, inl, inr, sym, subst}
-use Rattle.js_program.specs.PlainProgram.{PlainProgram}
 use Rattle.bp_base.specs.Counts.{Rose}
 use Rattle.bp_base.specs.Worlds.{Holdings}
 use Rattle.bp_log.specs.Header.{PlainHeader}
 use Rattle.bp_log.specs.Logs.{header_text}
 use Rattle.bp_log.specs.declared.version.Version.TheVariants.{Second}
 use Rattle.bp_code.specs.Code.{code_of, text_of}
-use Rattle.bp_script.specs.Programs.{IsProgram}
 use Rattle.bp_told.specs.Order.{PrintsBehind}
 use Rattle.bp_session.specs.Reports.{EndsAs}
 use Rattle.bp_cli.specs.declared.conclusion.Conclusion.{Conclusion}
 use Rattle.bp_cli.specs.Endings.{IsCaused}
 use Rattle.bp_cli.specs.inner.Opening.{AreOpened, IsLogMade, IsLogHeld}
 use Rattle.bp_cli.specs.Outside.{outside}
-use Rattle.bp_cli.specs.Runs.{header_of}
 use Rattle.bp_cli.proofs.Runs.{ran, run_caused, input_failed, log_failed, opened_many}
 use Rattle.bp_cli.proofs.running.run_opened.Goals as goal
 
@@ -33,17 +30,17 @@ returns-clause-ran g c = λ before same.
     let print_faults = g.K.Sink.faults in
     let asked = c.args.asked.now in
     let header = c.in-Some.header in
-    let program = c.into_parts-program.result.0 in
+    let program = c.args.loaded.program in
     let report = c.run-report.result.0 in
     let back = c.run-report.result.1.items in
     let first = c.args.log in
     let last = c.run-report.new.log in
     let after = seen c.close_log.new.world c.run-report.new.out in
     ran written made_as log_faults print_faults left faults asked c.args.loaded.bytes.items program report.records c.args.inputs.items back c.args.out.now c.run-report.new.out first last before after header report.end c.of.result
-    (c.in-Some.ensures.1 ∙ ap (λ x. header_of asked x.1.items) c.into_parts-program.ensures) c.of.ensures
+    c.in-Some.ensures.1 c.of.ensures
     (record {
       is_header = c.header_keeps.ensures;
-      is_program = subst (λ (p : PlainProgram). IsProgram c.args.loaded.bytes.items p) (sym (ap (λ x. x.0) c.into_parts-program.ensures)) c.requires.program;
+      is_program = c.requires.program;
       are_records = c.records_keep.ensures;
       counted = c.requires.counted;
       opened = subst (λ (h : Option Holdings). AreOpened left faults h asked.injectors c.args.inputs.items) same.1 c.requires.opened;
@@ -69,7 +66,7 @@ returns-clause-caused g c =
     let back = c.run-report.result.1.items in
     let closed = c.close_inputs.new.world in
     subst (λ (x : Conclusion). IsCaused before after x) (sym c.of.ensures)
-    (run_caused written log_faults g.K.Sink.faults left faults c.into_parts-program.result.0 c.in-Some.header report.records c.args.inputs.items back c.args.out.now c.run-report.new.out before.printed after.printed c.args.log c.run-report.new.log before after report.end
+    (run_caused written log_faults g.K.Sink.faults left faults c.args.loaded.program c.in-Some.header report.records c.args.inputs.items back c.args.out.now c.run-report.new.out before.printed after.printed c.args.log c.run-report.new.log before after report.end
     c.run-report.ensures.ends
     (λ j b. subst (λ (n : ℕ). Rose before.read_faults n) (sym c.close_log.ensures.reads)
     (input_failed left faults before.holds c.args.asked.now.injectors c.args.inputs.items back report.records j (Rose before.read_faults (g.W.World.read_faults closed)) c.requires.opened c.run-report.ensures.back.many b c.close_inputs.ensures.risen))

@@ -1,0 +1,8 @@
+//! Programs that a world holds under a name, read and accepted.
+#![tactic(auto)]
+
+mod loading;
+mod unloaded;
+
+pub use loading::{Loaded, load};
+pub use unloaded::{NO_MEMORY, Unloaded};

@@ -1,6 +1,0 @@
-use Rattle.bpx_cli.proofs.Loads.{too_long}
-use Rattle.bpx_cli.proofs.loading.bytes_of.Goals as goal
-
-pub returns-clause-too_long : goal.returns-clause-too_long
-returns-clause-too_long g c =
-    λ e. too_long _ c.args.name.now _ c.from.result c.in-Ok.ensures.content c.from.ensures (c.read_all-read.ensures.too_long e)

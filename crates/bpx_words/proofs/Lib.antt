@@ -1,3 +1,0 @@
-mod Rows
-mod WhyRows
-pub mod Splits

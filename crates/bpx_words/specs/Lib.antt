@@ -1,4 +1,0 @@
-pub mod Requests
-pub mod States
-pub mod Seeds
-pub mod Whys
