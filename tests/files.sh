@@ -262,6 +262,7 @@ grows() {
         sleep 1
     done
     echo "$what: nothing came into $1"
+    cat "$got/note"
     return 1
 }
 
