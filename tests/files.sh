@@ -255,6 +255,56 @@ fifo_log() (
     replays
 )
 
+# grows FILE: waits until something stands in the file
+grows() {
+    for _ in $(seq "$most"); do
+        [ -s "$1" ] && return
+        sleep 1
+    done
+    echo "$what: nothing came into $1"
+    cat "$got/note"
+    return 1
+}
+
+# ends_early: ends the run that was begun last, which had not come to its end
+ends_early() {
+    kill "$run"
+    wait "$run" 2> /dev/null
+    ! grep -q '^end ' "$got/log" || { echo "$what: the run came to its end before"; return 1; }
+}
+
+# a run that is killed in its first turn leaves the head of its log, with its script
+killed_at_once() (
+    give
+    echo 'bp.registerBThread("A", () => { while (true) {} })' > "$given/endless.js"
+    rm -f "$got/log"
+    timeout "$most" "$BP" run --budget 1000000000 --log "$got/log" "$given/endless.js" > "$got/trace" 2> "$got/note" &
+    run=$!
+    grows "$got/log" && ends_early || exit 1
+    {
+        printf '%s\n' 'bp-log 2' 'strategy simple' 'seed 0' 'budget 1000000000' 'steps 100000' 'injectors 0' 'wait yes' 'program 51'
+        cat "$given/endless.js"
+        echo
+    } > "$got/wanted"
+    cmp "$got/wanted" "$got/log"
+)
+
+# what a run without injectors tells is written long before it is much, and its log has it
+killed_between_turns() (
+    give
+    echo 'bp.registerBThread("A", () => { while (true) { for (let i = 0; i < 1000; i++) ; bp.sync({request: bp.Event("t")}) } })' \
+        > "$given/turning.js"
+    rm -f "$got/log"
+    timeout "$most" "$BP" run --steps 1000000 --log "$got/log" "$given/turning.js" > "$got/text" 2> "$got/note" &
+    run=$!
+    grows "$got/text" && ends_early || exit 1
+    [ "$(($(wc -c < "$got/text")))" -lt 65536 ] || { echo "$what: $(wc -c < "$got/text") bytes were written at once"; exit 1; }
+    program replay "$got/log" > "$got/trace" 2> "$got/note"
+    status=$?
+    [ "$status" -eq 11 ] && [ "$(cat "$got/note")" = 'bad log: cut' ] || { echo "$what: the replay: status $status"; exit 1; }
+    head -c "$(($(wc -c < "$got/text")))" "$got/trace" | cmp - "$got/text"
+)
+
 # two FIFOs that the shell has open for both ways end once the shell closes them, if the program was started without them
 both_ways() (
     give
@@ -275,4 +325,4 @@ both_ways() (
 )
 
 try closed_streams closed_error closed_explaining log_over_script log_over_injector log_over_stream log_into_pipe log_nowhere \
-    longer_log held_log null_log_twice fifo_log both_ways
+    longer_log held_log null_log_twice fifo_log killed_at_once killed_between_turns both_ways
