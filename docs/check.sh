@@ -55,7 +55,7 @@ says "pages: files of crates that are not there" "$(
 says "pages: files that are not there" "$(
     # shellcheck disable=SC2086
     {
-        grep -ohE '(^|[^A-Za-z0-9_/])(docs|tests|bench|examples|editor|[.]ci)/[A-Za-z0-9_./-]*[A-Za-z0-9]' $pages | grep -oE '[.a-z].*'
+        grep -ohE '(^|[^A-Za-z0-9_/])(docs|tests|bench|examples|editor|lib|[.]ci)/[A-Za-z0-9_./-]*[A-Za-z0-9]' $pages | grep -oE '[.a-z].*'
         grep -ohE 'sh [.]/[a-z]+' $pages | sed 's/^sh //'
         grep -ohE 'cd crates/[a-z_]+' $pages | sed 's/^cd //'
         grep -ohE '`[A-Z]+[.]md`' $pages | tr -d '`'
