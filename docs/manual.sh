@@ -138,7 +138,7 @@ completions() {
                 "        *) COMPREPLY=($(compgen -f -- \"$word\")) ;;\n    esac\n}\ncomplete -o filenames -F _%s %s\n", \
                 made, program, commands, bash, numbers, with, options, program, program > (folder program ".bash")
             printf "#compdef %s\n%s_%s() {\n    if ((CURRENT == 2)); then compadd -- %s; return; fi\n" \
-                "    case $words[CURRENT - 1] in\n%s        %s) return ;;\n    esac\n" \
+                "    case $words[CURRENT-1] in\n%s        %s) return ;;\n    esac\n" \
                 "    if [[ $words[2] == %s && $words[CURRENT] == -* ]]; then compadd -- %s; else _files; fi\n}\n_%s \"$@\"\n", \
                 program, made, program, commands, zsh, numbers, with, options, program > (folder "_" program)
             printf "%scomplete -c %s -n __fish_use_subcommand -f -a \"%s\"\n%s", made, program, commands, fish > (folder program ".fish")
