@@ -1,7 +1,7 @@
 #!/bin/sh
 # Looks whether the pages agree with the crates: the order of crates.txt, the headings and rows of docs/MAP.md, and the files of
-# definitions, laws and clauses, the scripts and the pages that they name. Proves nothing and takes some seconds. Ends with a line
-# `N passed, M failed`.
+# definitions, laws and clauses, the scripts and the pages that they name; and whether the manual pages and the completions are those
+# that docs/manual.sh makes of the pages. Proves nothing and takes some seconds. Ends with a line `N passed, M failed`.
 cd "$(dirname "$0")/.." || exit 1
 passed=0 failed=0
 room=$(mktemp -d) && trap 'rm -rf "$room"' EXIT || exit 1
@@ -55,7 +55,7 @@ says "pages: files of crates that are not there" "$(
 says "pages: files that are not there" "$(
     # shellcheck disable=SC2086
     {
-        grep -ohE '(^|[^A-Za-z0-9_/])(docs|tests|bench|examples|editor|[.]ci)/[A-Za-z0-9_./-]*[A-Za-z0-9]' $pages | grep -oE '[.a-z].*'
+        grep -ohE '(^|[^A-Za-z0-9_/])(docs|tests|bench|examples|editor|lib|man|completions|[.]ci)/[A-Za-z0-9_./-]*[A-Za-z0-9]' $pages | grep -oE '[.a-z].*'
         grep -ohE 'sh [.]/[a-z]+' $pages | sed 's/^sh //'
         grep -ohE 'cd crates/[a-z_]+' $pages | sed 's/^cd //'
         grep -ohE '`[A-Z]+[.]md`' $pages | tr -d '`'
@@ -99,6 +99,11 @@ says "pages: quoted definitions that no file has" "$(
     sed -n '/^```antt/,/^```$/{/^```/d;p;}' docs/*.md | sed 's/^ *//' | sort -u | while IFS= read -r line; do
         [ -z "$line" ] || grep -rqF --include=*.antt -e "$line" crates/*/specs || printf '%s\n' "$line"
     done)"
+
+# The manual pages and completions are those that the script makes of the pages.
+says "man, completions: not what \`sh docs/manual.sh\` makes" "$(
+    sh docs/manual.sh "$room/made" 2>&1
+    for folder in man completions; do diff -r "$folder" "$room/made/$folder" 2>&1 | head -n 5; done)"
 
 echo "$passed passed, $failed failed"
 [ "$failed" -eq 0 ]

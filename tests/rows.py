@@ -67,6 +67,9 @@ class Block:
                 self.mode = word
             elif word in ("as", "lines") and words:
                 self.mode, self.of = word, words.pop(0)
+            elif word == "from" and words and not lines:
+                with open(os.path.join(TOP, words.pop(0)), encoding="utf-8") as file:
+                    lines = file.read().splitlines()
             else:
                 raise Wrong(f"no such word: {word}")
         once = map(unescaped, lines) if escaped else (f"{line}\n".encode() for line in lines)
@@ -167,7 +170,7 @@ class Part:
             raise Wrong(f"no such line: {verb}")
 
     def more(self, words, content):
-        names = list(itertools.takewhile(lambda word: word not in ("escaped", "repeat"), words))
+        names = list(itertools.takewhile(lambda word: word not in ("escaped", "repeat", "from"), words))
         block = Block(words[len(names) :], content)
         for name in names:
             if name not in ("out", "err"):
@@ -273,7 +276,7 @@ def rows_in(path):
                 titles.add(line)
             else:
                 part.add(number, line, content)
-        except (Wrong, ValueError, IndexError) as error:
+        except (Wrong, OSError, ValueError, IndexError) as error:
             raise Wrong(f"{path}:{number}: {line[:MOST_LETTERS]}: {error}") from None
     for row in rows:
         if not row.runs():

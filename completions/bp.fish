@@ -1,0 +1,10 @@
+# Made by docs/manual.sh from README.md and docs/COMMAND.md.
+complete -c bp -n __fish_use_subcommand -f -a "run replay accept migrate large"
+complete -c bp -n "__fish_seen_subcommand_from run" -l log -r -F -d "write the log of the run to this file"
+complete -c bp -n "__fish_seen_subcommand_from run" -l strategy -x -a "simple ordered priority" -d "draw any selectable event, a first choice, or one of the greatest priority"
+complete -c bp -n "__fish_seen_subcommand_from run" -l seed -x -d "the seed of the draws"
+complete -c bp -n "__fish_seen_subcommand_from run" -l budget -x -d "the most nodes (statements and expressions) of a b-thread between two synchronisation points"
+complete -c bp -n "__fish_seen_subcommand_from run" -l steps -x -d "the most events to select"
+complete -c bp -n "__fish_seen_subcommand_from run" -l wait -x -a "yes no" -d "wait for injectors if nothing can be selected"
+complete -c bp -n "__fish_seen_subcommand_from run" -l workers -x -d "how many threads run b-threads, and for how many nodes at a stretch; the output does not depend on either"
+complete -c bp -n "__fish_seen_subcommand_from run" -l slice -x -d "how many threads run b-threads, and for how many nodes at a stretch; the output does not depend on either"
