@@ -294,7 +294,7 @@ killed_between_turns() (
     give
     echo 'bp.registerBThread("A", () => { while (true) { for (let i = 0; i < 1000; i++) ; bp.sync({request: bp.Event("t")}) } })' \
         > "$given/turning.js"
-    rm -f "$got/log"
+    rm -f "$got/log" "$got/text"
     timeout "$most" "$BP" run --steps 1000000 --log "$got/log" "$given/turning.js" > "$got/text" 2> "$got/note" &
     run=$!
     grows "$got/text" && ends_early || exit 1
