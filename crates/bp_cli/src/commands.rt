@@ -87,17 +87,18 @@ pub fn command<R: Threads + Wait + Sync + Clock, W: World, K: Sink>(
     // and merge what the world holds under the injectors' names; if a log is kept, it has the same
     // records, and each replay of it prints the same text and comes to the same verdict, unless
     // reading or writing fails or memory runs out. At 0 of a run that waits for its injectors all
-    // that they brought was recorded. At 8 reading failed: before the run, and then nothing was
-    // printed and no log was asked for, or of an injector before there was a verdict, and then all
-    // that was recorded was told. At 9 and 10 a prefix of the text was printed, and a prefix of the
-    // log is held, in which the records of that text are, unless writing in the world failed before
-    // anything was printed, or no log was asked for. However a run ends, what was printed is a
-    // prefix of the text of a complete story over the same injectors. Without injectors the records
-    // are those of the one run, or the first of them. A replay at 8 and 11 has printed the text of
-    // the records that were followed. A migration ends at 0 if the bytes are a log, printed in the
-    // second version, and at 11 if not. The world was asked for the names of the words, in order,
-    // and for all of them if a verdict came. So if no count rose and memory did not run out, the
-    // status is 1, 2, 11, that of the verdict, or 0 for an accepted program and a migrated log.
+    // that they brought was recorded. At 8 reading failed: nothing was printed and no log was asked
+    // for; or an injector failed before there was a verdict, and all that the records say was told.
+    // At 9 and 10 a prefix of the text was printed, and a prefix of the log is held, in which the
+    // records of that text are, unless writing in the world failed before anything was printed, or
+    // no log was asked for. However a run ends, what was printed is a prefix of the text of a
+    // complete story over the same injectors. Without injectors the records are those of the one
+    // run, or the first of them. A replay at 11, and at 8 unless it printed nothing, has printed
+    // the text of the records that were followed. A migration ends at 0 if the bytes are a log,
+    // printed in the second version, and at 11 if not. The world was asked for the names of the
+    // words, in order, and for all of them if a verdict came. So if no count rose and memory did
+    // not run out, the status is 1, 2, 11, that of the verdict, or 0 for an accepted program and a
+    // migrated log.
     ensures ends { let seen = outside W.holds W.asked W.read_faults W.write_faults
         K.written K.faults in Ends (command_of (map string_bytes words.now))
         (seen world.old out.old) (seen world.new out.new) result.code result.note result.records }
