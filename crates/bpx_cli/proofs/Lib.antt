@@ -1,4 +1,5 @@
 mod RequestRows
+mod AskingRows
 mod WhyRows
 pub mod Splits
 pub mod Tells

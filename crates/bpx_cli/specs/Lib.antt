@@ -7,4 +7,5 @@ pub mod States
 pub mod Statuses
 pub mod Whys
 pub mod Answers
+pub mod Asking
 pub mod inner

@@ -1,9 +1,11 @@
 //! What is asked for, and its answer.
-ghost use Rattle.std.specs.Prelude.{◌≡◌, ◌≤◌, IsErrOf, IfOk, IfErr, map, string_bytes};
+ghost use Rattle.std.specs.Prelude.{◌≡◌, ◌⊎◌, ◌≤◌, Some, IsErrOf, IfOk, IfErr, map, string_bytes};
 ghost use Rattle.bp_base.specs.Counts.{Rose};
+ghost use Rattle.bp_base.specs.Worlds.{Asks};
 ghost use Rattle.bpx_cli.specs.Requests.{request_of};
 ghost use Rattle.bpx_cli.specs.inner.Ends.{ended_by};
 ghost use Rattle.bpx_cli.specs.Answers.{Answers, IsUnanswered, EndsUnloaded, IsChecked, IsCheckOf, EndsAs, Ends};
+ghost use Rattle.bpx_cli.specs.Asking.{name_of, WasAskedFor, AsksIn};
 
 use crate::ended::{Ended, Reply};
 use crate::help::HELP;
@@ -48,8 +50,11 @@ fn check_reply<W: World>(alloc: Global, name: &Text, world: &mut W) -> Result<Re
     ensures unanswered { IfErr result (EndsUnloaded (W.holds world.old) name.now) }
     ensures cause { IsErrOf result Ended.NotRead
         → Rose (W.read_faults world.old) (W.read_faults world.new) }
+    ensures asks { (IsErrOf result Ended.NoMemory × (W.asked world.new ≡ W.asked world.old))
+        ⊎ Asks (W.asked world.old) name.now (W.asked world.new) }
     ensures holds { W.holds world.new ≡ W.holds world.old }
     ensures counts { W.read_faults world.old ≤ W.read_faults world.new }
+    ensures writes { W.write_faults world.new ≡ W.write_faults world.old }
 {
     let loaded = load(alloc, world, name.as_str())?;
     match checked(alloc, &loaded.program) {
@@ -80,8 +85,11 @@ fn answer_to<R: Threads + Sync, W: World>(
     ensures unanswered { IfErr result (IsUnanswered (W.holds world.old) request.now) }
     ensures cause { IsErrOf result Ended.NotRead
         → Rose (W.read_faults world.old) (W.read_faults world.new) }
+    ensures asks { (IsErrOf result Ended.NoMemory × (W.asked world.new ≡ W.asked world.old))
+        ⊎ WasAskedFor (name_of request.now) (W.asked world.old) (W.asked world.new) }
     ensures holds { W.holds world.new ≡ W.holds world.old }
     ensures counts { W.read_faults world.old ≤ W.read_faults world.new }
+    ensures writes { W.write_faults world.new ≡ W.write_faults world.old }
 {
     match request {
         Request::Help => match help(alloc) {
@@ -108,9 +116,11 @@ fn carry_out<R: Threads + Sync, W: World, K: Sink>(
     ensures read { result ≡ Ended.NotRead
         → Rose (W.read_faults world.old) (W.read_faults world.new) }
     ensures written { result ≡ Ended.NotWritten → Rose (K.faults out.old) (K.faults out.new) }
+    ensures asks { AsksIn (Some request.now) (W.asked world.old) (W.asked world.new) result }
     ensures holds { W.holds world.new ≡ W.holds world.old }
-    ensures read_counts { W.read_faults world.old ≤ W.read_faults world.new }
-    ensures write_counts { K.faults out.old ≤ K.faults out.new }
+    ensures counts { (W.read_faults world.old ≤ W.read_faults world.new)
+        × (K.faults out.old ≤ K.faults out.new) }
+    ensures writes { W.write_faults world.new ≡ W.write_faults world.old }
 {
     let answer = match answer_to(rt, alloc, request, world) {
         Ok(answer) => answer,
@@ -141,7 +151,15 @@ pub fn answer<R: Threads + Sync, W: World, K: Sink>(
     ensures read { result ≡ Ended.NotRead
         → Rose (W.read_faults world.old) (W.read_faults world.new) }
     ensures written { result ≡ Ended.NotWritten → Rose (K.faults out.old) (K.faults out.new) }
+
+    // Of the world it asks for the name of the request, once, and for no other.
+    ensures asks { AsksIn (request_of (map string_bytes words.now))
+        (W.asked world.old) (W.asked world.new) result }
+
     ensures holds { W.holds world.new ≡ W.holds world.old }
+    ensures counts { (W.read_faults world.old ≤ W.read_faults world.new)
+        × (K.faults out.old ≤ K.faults out.new) }
+    ensures writes { W.write_faults world.new ≡ W.write_faults world.old }
 {
     match read(alloc, words) {
         Ok(request) => carry_out(rt, alloc, &request, world, out),

@@ -1,7 +1,7 @@
 //! Logs that are asked about.
 ghost use Rattle.std.specs.Prelude.{◌≡◌, ◌≤◌, ◌⊎◌, Ok, IsErrOf, IsErrAnd, IfOk, IfErr};
 ghost use Rattle.bp_base.specs.Counts.{Rose};
-ghost use Rattle.bp_base.specs.Worlds.{Opens};
+ghost use Rattle.bp_base.specs.Worlds.{Opens, Asks};
 ghost use Rattle.bpx_cli.specs.inner.Ends.{ended_of_log};
 
 use crate::ended::{Ended, Reply};
@@ -18,8 +18,11 @@ pub(crate) fn open_log<W: World>(world: &mut W, name: &Text) -> Result<W::Input,
         (λ end. (end ≡ Ended.NotRead) ⊎ (end ≡ Ended.NoMemory)) }
     ensures cause { IsErrOf result Ended.NotRead
         → Rose (W.read_faults world.old) (W.read_faults world.new) }
+    ensures asks { (IsErrOf result Ended.NoMemory × (W.asked world.new ≡ W.asked world.old))
+        ⊎ Asks (W.asked world.old) name.now (W.asked world.new) }
     ensures holds { W.holds world.new ≡ W.holds world.old }
     ensures counts { W.read_faults world.old ≤ W.read_faults world.new }
+    ensures writes { W.write_faults world.new ≡ W.write_faults world.old }
 {
     match world.open(name.as_str()) {
         Ok(input) => Ok(input),

@@ -1,6 +1,7 @@
 //! How the runs of a program end under some seeds.
-ghost use Rattle.std.specs.Prelude.{◌≡◌, ◌≤◌, IsErrOf, IfOk, IfErr, string_bytes};
+ghost use Rattle.std.specs.Prelude.{◌≡◌, ◌⊎◌, ◌≤◌, IsErrOf, IfOk, IfErr, string_bytes};
 ghost use Rattle.bp_base.specs.Counts.{Rose};
+ghost use Rattle.bp_base.specs.Worlds.{Asks};
 ghost use Rattle.bp_seeds.specs.Sweeps.{IsSweep};
 ghost use Rattle.bpx_cli.specs.Answers.{AreSeedsOf, EndsUnloaded};
 
@@ -40,8 +41,11 @@ pub(crate) fn seeds_reply<R: Threads + Sync, W: World>(
     ensures unanswered { IfErr result (EndsUnloaded (W.holds world.old) (asked.now).program) }
     ensures cause { IsErrOf result Ended.NotRead
         → Rose (W.read_faults world.old) (W.read_faults world.new) }
+    ensures asks { (IsErrOf result Ended.NoMemory × (W.asked world.new ≡ W.asked world.old))
+        ⊎ Asks (W.asked world.old) (asked.now).program (W.asked world.new) }
     ensures holds { W.holds world.new ≡ W.holds world.old }
     ensures counts { W.read_faults world.old ≤ W.read_faults world.new }
+    ensures writes { W.write_faults world.new ≡ W.write_faults world.old }
 {
     let loaded = load(alloc, world, asked.program().as_str())?;
     match sweep_text(rt, alloc, loaded.bytes.as_slice(), &sweep_of(asked)) {
