@@ -153,7 +153,7 @@ function max(a, b) {
 }
 
 // ---- Texts. They have no length and no letters here, so they are taken apart by trying each letter of `alphabet`: a letter of a text
-// costs some 200 to 1,000 nodes of the budget. Another letter is the fault `index`: add it there.
+// costs some 150 to 800 nodes of the budget. Another letter is the fault `index`: add it there.
 
 function lowerLetters() {
   return ["a", "b", "c", "d", "e", "f", "g", "h", "i", "j", "k", "l", "m", "n", "o", "p", "q", "r", "s", "t", "u", "v", "w", "x", "y", "z"];
