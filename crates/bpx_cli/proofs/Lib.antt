@@ -1,5 +1,6 @@
 mod RequestRows
 mod WhyRows
 pub mod Splits
+pub mod Loads
 pub mod Tells
 pub mod Said

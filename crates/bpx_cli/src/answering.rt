@@ -3,7 +3,7 @@ ghost use Rattle.std.specs.Prelude.{◌≡◌, ◌≤◌, IsErrOf, IfOk, IfErr, 
 ghost use Rattle.bp_base.specs.Counts.{Rose};
 ghost use Rattle.bpx_cli.specs.Requests.{request_of};
 ghost use Rattle.bpx_cli.specs.inner.Ends.{ended_by};
-ghost use Rattle.bpx_cli.specs.Answers.{Answers, IsUnanswered, EndsUnloaded, IsChecked, IsCheckOf, EndsAs, Ends};
+ghost use Rattle.bpx_cli.specs.Answers.{Answers, IsUnanswered, IsUnloaded, IsChecked, IsCheckOf, EndsAs, Ends};
 
 use crate::ended::{Ended, Reply};
 use crate::help::HELP;
@@ -45,7 +45,7 @@ fn checked(alloc: Global, program: &Program) -> Result<Reply, Memory>
 fn check_reply<W: World>(alloc: Global, name: &Text, world: &mut W) -> Result<Reply, Ended>
     ensures answers { IfOk result
         (λ a. IsCheckOf (W.holds world.old) name.now (string_bytes a.text) a.end) }
-    ensures unanswered { IfErr result (EndsUnloaded (W.holds world.old) name.now) }
+    ensures unanswered { IfErr result (IsUnloaded (W.holds world.old) name.now) }
     ensures cause { IsErrOf result Ended.NotRead
         → Rose (W.read_faults world.old) (W.read_faults world.new) }
     ensures holds { W.holds world.new ≡ W.holds world.old }
