@@ -153,7 +153,7 @@ function max(a, b) {
 }
 
 // ---- Texts. They have no length and no letters here, so they are taken apart by trying each letter of `alphabet`: a letter of a text
-// costs some 200 to 1,000 nodes of the budget. Another letter is the fault `index`: add it there.
+// costs 20 to 700 nodes of the budget. Another letter is the fault `index`: add it there.
 
 function lowerLetters() {
   return ["a", "b", "c", "d", "e", "f", "g", "h", "i", "j", "k", "l", "m", "n", "o", "p", "q", "r", "s", "t", "u", "v", "w", "x", "y", "z"];
@@ -176,17 +176,18 @@ function alphabet() {
     "{", "}", "<", ">", "/", "\\", "|", "+", "*", "=", "%", "&", "#", "@", "$", "^", "~", "`"]);
 }
 
-// The letter of a text behind this beginning of it, which is not all of it.
-function letterAfter(text, front) {
-  for (const letter of alphabet()) if (text.startsWith(front + letter)) return letter;
+// The one of these letters that stands in a text behind this beginning of it, which is not all of it.
+function letterAfter(text, front, known) {
+  for (const letter of known) if (text.startsWith(front + letter)) return letter;
   return [][0];
 }
 
 // The letters of a text, [...text]. Their `length` is that of the text, and the functions of lists take them.
 function letters(text) {
+  const known = alphabet();
   let made = [], front = "";
   while (front !== text) {
-    const letter = letterAfter(text, front);
+    const letter = letterAfter(text, front, known);
     made = made.concat([letter]);
     front += letter;
   }
@@ -196,6 +197,7 @@ function letters(text) {
 function split(text, between) {
   if (between === undefined) return [text];
   if (between === "") return letters(text);
+  const known = alphabet();
   let parts = [], part = "", front = "";
   while (front !== text) {
     if (text.startsWith(front + between)) {
@@ -203,7 +205,7 @@ function split(text, between) {
       part = "";
       front += between;
     } else {
-      const letter = letterAfter(text, front);
+      const letter = letterAfter(text, front, known);
       part += letter;
       front += letter;
     }
@@ -225,10 +227,11 @@ function charAt(text, place) {
 
 // `text.indexOf(part)`: the first place at which the text has this part, or -1.
 function textIndexOf(text, part) {
+  const known = alphabet();
   let front = "", place = 0;
   while (!text.startsWith(front + part)) {
     if (front === text) return -1;
-    front += letterAfter(text, front);
+    front += letterAfter(text, front, known);
     place++;
   }
   return place;

@@ -10,9 +10,9 @@ use Rattle.bp_log.specs.declared.options.Strategy.TheVariants as strategy
 use Rattle.bp_log.specs.declared.limits.TheConstants.{MOST_BUDGET, MOST_STEPS, MOST_WORKERS, MOST_SLICE}
 use Rattle.bp_reading.specs.Words.{most_32, most_64}
 use Rattle.bp_reading.proofs.Numbers.{own}
-use Rattle.bp_matches.specs.declared.key.Key.{Key}
-use Rattle.bp_matches.specs.declared.key.Key.TheVariants.{Log, Strategy as StrategyKey, Seed, Budget, Steps, Workers, Slice, Wait}
-use Rattle.bp_matches.specs.Keys.{keys}
+use Rattle.bp_args.specs.declared.key.Key.{Key}
+use Rattle.bp_args.specs.declared.key.Key.TheVariants.{Log, Strategy as StrategyKey, Seed, Budget, Steps, Workers, Slice, Wait}
+use Rattle.bp_args.specs.Keys.{keys}
 use Rattle.bp_args.specs.declared.command.Command.{Command}
 use Rattle.bp_args.specs.declared.command.Command.TheVariants as command
 use Rattle.bp_args.specs.declared.command.Run.{Run as PlainRun}

@@ -5,7 +5,7 @@ use Rattle.std.specs.Fmt.{digits}
 use Rattle.bp_log.specs.Options.{PlainOptions, default_options}
 use Rattle.bp_log.specs.Parallelism.{PlainParallelism, default_parallelism}
 use Rattle.bp_log.specs.declared.options.Strategy.TheVariants.{Ordered}
-use Rattle.bp_matches.specs.Normal.{normal_words}
+use Rattle.bp_args.specs.inner.NormalWords.{normal_words}
 use Rattle.bp_args.specs.declared.command.Command.{Command}
 use Rattle.bp_args.specs.declared.command.Command.TheVariants.{Run, Replay, Accept, Large, Migrate}
 use Rattle.bp_args.specs.Command.{command_of}

@@ -5,8 +5,8 @@ use Rattle.std.specs.Str.{all_ascii_digits, bytes_eq}
 use Rattle.std.proofs.lemmas.Bool.{and_parts}
 use Rattle.bp_log.specs.Logs.{strategy_at, wait_at}
 use Rattle.bp_reading.specs.Words.{value_on, most_32, most_64}
-use Rattle.bp_matches.specs.declared.key.Key.{Key}
-use Rattle.bp_matches.specs.declared.key.Key.TheVariants.{Log, Strategy, Seed, Budget, Steps, Workers, Slice, Wait}
+use Rattle.bp_args.specs.declared.key.Key.{Key}
+use Rattle.bp_args.specs.declared.key.Key.TheVariants.{Log, Strategy, Seed, Budget, Steps, Workers, Slice, Wait}
 use Rattle.bp_args.specs.declared.command.Command.{Command}
 use Rattle.bp_args.specs.declared.command.Command.TheVariants as command
 use Rattle.bp_args.specs.declared.command.Run.{Run as PlainRun}

@@ -1,6 +1,6 @@
 pub use Rattle.bp_log.specs.Options
 pub use Rattle.bp_reading.specs.Words
-pub use Rattle.bp_matches.specs.Keys
+pub mod Keys
 pub mod Verbs
 pub mod Said
 pub mod Command

@@ -5,9 +5,9 @@ use Rattle.std.specs.Option.{is_some}
 use Rattle.std.specs.Str.{all_ascii_digits, bytes_eq}
 use Rattle.bp_log.specs.Logs.{strategy_at, wait_at}
 use Rattle.bp_reading.specs.Words.{value_on, most_32, most_64, behind}
-use Rattle.bp_matches.specs.declared.key.Key.{Key}
-use Rattle.bp_matches.specs.declared.key.Key.TheVariants.{Log, Strategy, Seed, Budget, Steps, Workers, Slice, Wait}
-use Rattle.bp_matches.specs.Keys.{keys, key_at}
+use Rattle.bp_args.specs.declared.key.Key.{Key}
+use Rattle.bp_args.specs.declared.key.Key.TheVariants.{Log, Strategy, Seed, Budget, Steps, Workers, Slice, Wait}
+use Rattle.bp_args.specs.Keys.{keys, key_at}
 use Rattle.bp_args.specs.declared.said.TheConstants.{MOST_DIGITS}
 use Rattle.bp_args.specs.declared.said.Waiting.{Waiting}
 use Rattle.bp_args.specs.declared.said.Waiting.TheVariants.{Any, Value, Name}

@@ -2,7 +2,7 @@
 use Rattle.std.specs.Prelude.{ℕ, ◌+◌, Bool, true, false, ◌&&◌, nat_le, List, [], ◌∷◌, Option, find, codes}
 use Rattle.std.specs.Str.{bytes_eq}
 use Rattle.bp_log.specs.declared.limits.TheConstants.{MOST_INJECTORS}
-use Rattle.bp_matches.specs.declared.key.Key.{Key}
+use Rattle.bp_args.specs.declared.key.Key.{Key}
 use Rattle.bp_args.specs.declared.verb.Verb.{Verb}
 use Rattle.bp_args.specs.declared.verb.Verb.TheVariants.{Run, Replay, Accept, Large, Migrate}
 

@@ -1,2 +1,4 @@
 -- What the contracts inside of this crate cite, and nothing that a command is promised by.
 pub mod Normal
+pub mod NormalWords
+pub mod Reading

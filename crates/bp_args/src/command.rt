@@ -1,18 +1,20 @@
 //! The command that words are.
 ghost use Rattle.std.specs.Prelude.{◌≡◌, ◌≤◌, true, length, slice_get, Some, None, map, string_bytes, IfOk, IsErrOf, if◌then◌else◌};
-ghost use Rattle.bp_matches.specs.Keys.{keys};
+ghost use Rattle.bp_args.specs.Keys.{keys};
 ghost use Rattle.bp_args.specs.declared.verb.Verb.TheVariants as verb;
 ghost use Rattle.bp_args.specs.Verbs.{takes};
 ghost use Rattle.bp_args.specs.Said.{nothing_said, said_on};
 ghost use Rattle.bp_args.specs.Command.{options_of, in_range, parallelism_of, parallelism_in_range, is_apart as apart, large_of, command_for, command_with, command_of};
 ghost use Rattle.bp_args.specs.inner.Normal.{said_from, command_from};
 
+use crate::key::Key;
 use crate::normal::normal_of;
 use crate::said::{Said, number_of};
+use crate::telling::values_of;
+use crate::values::{Values, Words};
 use crate::verb::Verb;
 use bp_log::limits::MOST_INJECTORS;
 use bp_log::{Options, Parallelism};
-use bp_matches::{Key, Values, Words, values_of};
 use js_data::Text;
 use std::alloc::{AllocError, Global};
 use thiserror::Error;

@@ -2,8 +2,13 @@
 #![tactic(auto)]
 
 mod command;
+mod key;
 mod normal;
+mod reading;
 mod said;
+mod telling;
+mod values;
 mod verb;
 
 pub use command::{Command, MOST_LARGE, Run, Usage, read};
+pub use values::Words;

@@ -1,16 +1,15 @@
 //! A command, written out as words in the normal form.
 ghost use Rattle.std.specs.Prelude.{◌≡◌, ◌∷◌, IfOk, map, decimal, string_bytes};
-ghost use Rattle.bp_matches.specs.Normal.{normal_words};
+ghost use Rattle.bp_args.specs.inner.NormalWords.{normal_words};
 ghost use Rattle.bp_args.specs.declared.command.Command.TheVariants as command;
 ghost use Rattle.bp_args.specs.Verbs.{verb_name};
 ghost use Rattle.bp_args.specs.inner.Normal.{said_of as said_by, bare_values};
 
 use crate::command::{Command, Run};
-use crate::said::text_of;
+use crate::values::{Values, Words, text_of};
 use crate::verb::Verb;
 use bp_log::Memory;
 use bp_log::options::wait_word;
-use bp_matches::{Values, Words};
 use js_data::Text;
 use std::alloc::Global;
 

@@ -5,10 +5,11 @@ ghost use Rattle.bp_args.specs.Said.{is_name as word_is_name, number_word, key_o
 ghost use Rattle.bp_reading.specs.Words.{most_32};
 
 use crate::command::Usage;
+use crate::key::{DASHES, Key};
+use crate::values::{Words, text_of};
 use crate::verb::Verb;
 use bp_log::options::wait_of_word;
 use bp_log::{Memory, Strategy};
-use bp_matches::{DASHES, Key, Words};
 use bp_reader::behind_word;
 use js_data::Text;
 use std::alloc::Global;
@@ -121,13 +122,6 @@ fn parts_of(word: &str) -> Option<(&str, &str)>
     ensures { option_map (λ p. (p.0.now, p.1.now)) result ≡ parts_at 61 word.now }
 {
     word.split_once('=')
-}
-
-/// The text of a word.
-pub(crate) fn text_of(alloc: Global, word: &str) -> Result<Text, Memory>
-    ensures { IfOk result (λ t. t ≡ word.now) }
-{
-    Ok(Text::new(String::from_str(alloc, word)?))
 }
 
 /// The text of a word, where it isn't empty.

@@ -2,8 +2,8 @@
 ghost use Rattle.std.specs.Prelude.{◌≡◌};
 ghost use Rattle.bp_args.specs.Verbs.{verb_name, verbs, verb_at, allows as allowed, most_names as most_behind, takes as taken_by};
 
+use crate::key::Key;
 use bp_log::limits::MOST_INJECTORS;
-use bp_matches::Key;
 
 /// The first word of a command.
 #[derive(Clone, Copy)]

@@ -1,5 +1,5 @@
 -- What was told of a run: of its records to the log, and of its lines to the output.
-use Rattle.std.specs.Prelude.{◌≡◌, ℕ, List, [], ◌++◌, length, take, Option, Some, IsSome}
+use Rattle.std.specs.Prelude.{◌≡◌, ℕ, ◌<◌, List, [], ◌++◌, length, take, Option, Some, IsSome}
 use Rattle.bp_base.specs.Pieces.{Appends, AppendsFront}
 use Rattle.bp_log.specs.Logs.{records_text}
 use Rattle.bp_log.specs.Texts.{lines_text}
@@ -10,6 +10,7 @@ use Rattle.bp_told.specs.Order.{Texts, PrintsBehind, StaysBehind}
 use Rattle.bp_told.specs.Pages.{Shows, ShowsFront}
 use Rattle.bp_told.specs.declared.fault.RunFault.{RunFault}
 use Rattle.bp_told.specs.declared.fault.RunFault.TheVariants.{LogWrite}
+use Rattle.bp_told.specs.declared.page.TheConstants.{FULL}
 
 -- what waits to be written: lines for the output, and text for the log; and how many records were told
 pub record Waiting : Type 0 where
@@ -20,6 +21,10 @@ pub record Waiting : Type 0 where
 -- nothing waits to be written
 abbrev pub NothingWaits : Waiting → Type 0
 NothingWaits w = (w.lines ≡ []) × (w.records ≡ [])
+
+-- less waits for either than what is written at once
+abbrev pub IsWithin : Waiting → Type 0
+IsWithin w = (length w.lines < FULL) × (length w.records < FULL)
 
 -- what an output was given, where it tells that, and the log, where one is kept
 pub record Given (L : Type 0) : Type 0 where

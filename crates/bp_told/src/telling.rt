@@ -1,5 +1,5 @@
 //! What a run tells: its lines, and its records where a log is kept.
-ghost use Rattle.std.specs.Prelude.{◌≡◌, ◌⊎◌, ◌≤◌, ◌++◌, [], Err, length, drop, OnOk, OnErr, IfOk, IfErr, IsErrOf};
+ghost use Rattle.std.specs.Prelude.{◌≡◌, ◌⊎◌, ◌≤◌, ◌<◌, ◌++◌, [], Err, length, drop, OnOk, OnErr, IfOk, IfErr, IsErrOf};
 ghost use Rattle.bp_base.specs.Counts.{Rose};
 ghost use Rattle.bp_base.specs.Pieces.{Appends};
 ghost use Rattle.bp_log.specs.Logs.{header_text, records_text};
@@ -7,7 +7,8 @@ ghost use Rattle.bp_log.specs.declared.version.Version.TheVariants.{Second};
 ghost use Rattle.bp_log.specs.Texts.{whole_line, lines_text};
 ghost use Rattle.bp_told.specs.Logging.{LogGets, LogHolds, LogShows, LogShowsFront, LogWaits, LogFails, LogStays};
 ghost use Rattle.bp_told.specs.Pages.{Shows, ShowsFront};
-ghost use Rattle.bp_told.specs.Told.{given, BeginsTelling, TellsOn, BreaksOff, WritesAll, WritesPart, WritesOut, NothingWaits};
+ghost use Rattle.bp_told.specs.declared.page.TheConstants.{FULL};
+ghost use Rattle.bp_told.specs.Told.{given, BeginsTelling, TellsOn, BreaksOff, WritesAll, WritesPart, WritesOut, NothingWaits, IsWithin};
 
 use crate::RunFault;
 use crate::page::Page;
@@ -110,6 +111,7 @@ impl Telling {
             → LogWaits L.written log.old self.old.records self.new.records log.new }
         ensures kept { OnOk result (self.new.kept ≡ length records.now) }
         ensures lines { self.new.lines ≡ self.old.lines }
+        ensures within { OnOk result (length self.new.records < FULL) }
         ensures fault { ¬ IsErrOf result RunFault.Write }
         ensures cause { IsErrOf result RunFault.LogWrite → LogFails L.faults log.old log.new }
         ensures stays { LogStays L.made_as L.faults log.old log.new }
@@ -177,6 +179,7 @@ impl Telling {
             ⊎ LogGets L.written log.old self.old.records log.new }
         ensures whole { ¬ IsErrOf result RunFault.LogWrite
             → LogShows L.written log.old self.old.records self.new.records log.new }
+        ensures within { IsWithin self.old → OnOk result (IsWithin self.new) }
         ensures kept { self.new.kept ≡ self.old.kept }
         ensures cause { IsErrOf result RunFault.Write → Rose (K.faults out.old) (K.faults out.new) }
         ensures log_cause { IsErrOf result RunFault.LogWrite → LogFails L.faults log.old log.new }
@@ -211,6 +214,7 @@ impl Telling {
             ⊎ LogHolds L.written log.old self.old.records log.new }
         ensures whole { ¬ IsErrOf result RunFault.LogWrite
             → LogShows L.written log.old self.old.records self.new.records log.new }
+        ensures within { IsWithin self.old → OnOk result (IsWithin self.new) }
         ensures kept { self.new.kept ≡ self.old.kept }
         ensures cause { IsErrOf result RunFault.Write → Rose (K.faults out.old) (K.faults out.new) }
         ensures log_cause { IsErrOf result RunFault.LogWrite → LogFails L.faults log.old log.new }
@@ -224,7 +228,8 @@ impl Telling {
     }
 
     /// Tells further records of a run, of which all so far are given, and then the lines that came
-    /// with them. What waits is written whenever that is much.
+    /// with them. What waits is written whenever that is much, so that no more than a page waits of
+    /// either.
     pub fn tell<K: Sink, L: Sink>(
         &mut self,
         alloc: Global,
@@ -238,6 +243,7 @@ impl Telling {
             (given K.written out.old log.old) self.old (given K.written out.new log.new) self.new) }
         ensures breaks { IfErr result (BreaksOff L.written records.now lines.now
             (given K.written out.old log.old) self.old (given K.written out.new log.new) self.new) }
+        ensures within { IsWithin self.old → OnOk result (IsWithin self.new) }
         ensures kept { OnOk result (self.new.kept ≡ length records.now) }
         ensures cause { IsErrOf result RunFault.Write → Rose (K.faults out.old) (K.faults out.new) }
         ensures log_cause { IsErrOf result RunFault.LogWrite → LogFails L.faults log.old log.new }

@@ -2,5 +2,6 @@ mod RequestRows
 mod AskingRows
 mod WhyRows
 pub mod Splits
+pub mod Loads
 pub mod Tells
 pub mod Said

@@ -4,8 +4,7 @@ use Rattle.bp_base.specs.Worlds.{Holdings}
 use Rattle.bp_base.specs.Pieces.{Appends, AppendsFront}
 use Rattle.js_program.specs.PlainProgram.{PlainProgram}
 use Rattle.bp_script.specs.Programs.{IsProgram}
-use Rattle.bp_loading.specs.Loading.{IsUnder, IsUnloaded}
-use Rattle.bp_loading.specs.declared.unloaded.Unloaded.{Unloaded}
+use Rattle.bp_loading.specs.Loading.{IsUnder, IsRefusedUnder}
 use Rattle.bp_check.specs.Findings.{Finding, findings}
 use Rattle.bp_check.specs.Sentences.{check_text}
 use Rattle.bp_explain.specs.Seeds.{seeds_of}
@@ -24,17 +23,12 @@ pub record IsProgramOf (holds : Option Holdings) (name : List ℕ) (program : Pl
   pub under : IsUnder holds name bytes
   pub accepted : IsProgram bytes program
 
--- what comes of a program that was not loaded
-abbrev pub unloaded_of : Unloaded → Ended
-unloaded_of (Unloaded.Refused refusal) = Refused refusal
-unloaded_of Unloaded.NotRead = NotRead
-unloaded_of Unloaded.NoMemory = NoMemory
-
--- no program of that name was loaded, and a command ends so
-pub record EndsUnloaded (holds : Option Holdings) (name : List ℕ) (end : Ended) : Type 0 where
-  pub why : Unloaded
-  pub unloaded : IsUnloaded holds name why
-  pub ends : end ≡ unloaded_of why
+-- why there is not an accepted program of that name: it is refused, or was not read
+abbrev pub IsUnloaded : Option Holdings → List ℕ → Ended → Type 0
+IsUnloaded holds name (Refused refusal) = IsRefusedUnder holds name refusal
+IsUnloaded holds name NotRead = Unit {0}
+IsUnloaded holds name NoMemory = Unit {0}
+IsUnloaded holds name _ = ⊥
 
 abbrev pub checked : List Finding → Ended
 checked [] = Answered
@@ -68,10 +62,10 @@ Answers holds (request.Seeds s) text end = AreSeedsOf holds s text × (end ≡ A
 -- nothing answers it: its program is refused, its log has not what is asked about, or it was not read, or memory ran out
 abbrev pub IsUnanswered : Option Holdings → Request → Ended → Type 0
 IsUnanswered holds request.Help end = end ≡ NoMemory
-IsUnanswered holds (request.Check name) end = EndsUnloaded holds name end
+IsUnanswered holds (request.Check name) end = IsUnloaded holds name end
 IsUnanswered holds (request.State s) end = IsUnstated holds s end
 IsUnanswered holds (request.Why w) end = IsUnexplained holds w end
-IsUnanswered holds (request.Seeds s) end = EndsUnloaded holds s.program end
+IsUnanswered holds (request.Seeds s) end = IsUnloaded holds s.program end
 
 -- this was printed after what was, and answers what is asked
 pub record IsAnswered (holds : Option Holdings) (asked : Request)

@@ -4,7 +4,7 @@ ghost use Rattle.bp_base.specs.Counts.{Rose};
 ghost use Rattle.bp_base.specs.Worlds.{Asks};
 ghost use Rattle.bpx_cli.specs.Requests.{request_of};
 ghost use Rattle.bpx_cli.specs.inner.Ends.{ended_by};
-ghost use Rattle.bpx_cli.specs.Answers.{Answers, IsUnanswered, EndsUnloaded, IsChecked, IsCheckOf, EndsAs, Ends};
+ghost use Rattle.bpx_cli.specs.Answers.{Answers, IsUnanswered, IsUnloaded, IsChecked, IsCheckOf, EndsAs, Ends};
 ghost use Rattle.bpx_cli.specs.Asking.{name_of, WasAskedFor, AsksIn};
 
 use crate::ended::{Ended, Reply};
@@ -47,7 +47,7 @@ fn checked(alloc: Global, program: &Program) -> Result<Reply, Memory>
 fn check_reply<W: World>(alloc: Global, name: &Text, world: &mut W) -> Result<Reply, Ended>
     ensures answers { IfOk result
         (λ a. IsCheckOf (W.holds world.old) name.now (string_bytes a.text) a.end) }
-    ensures unanswered { IfErr result (EndsUnloaded (W.holds world.old) name.now) }
+    ensures unanswered { IfErr result (IsUnloaded (W.holds world.old) name.now) }
     ensures cause { IsErrOf result Ended.NotRead
         → Rose (W.read_faults world.old) (W.read_faults world.new) }
     ensures asks { (IsErrOf result Ended.NoMemory × (W.asked world.new ≡ W.asked world.old))

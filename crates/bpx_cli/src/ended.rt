@@ -46,7 +46,7 @@ pub enum Ended {
 
 impl From<Unloaded> for Ended {
     ghost use Rattle.std.specs.Prelude.{◌≡◌};
-    ghost use Rattle.bpx_cli.specs.Answers.{unloaded_of};
+    ghost use Rattle.bpx_cli.specs.inner.Ends.{unloaded_of};
 
     ghost from_gives = { λ u e. e ≡ unloaded_of u };
 

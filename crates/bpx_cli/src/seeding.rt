@@ -3,7 +3,7 @@ ghost use Rattle.std.specs.Prelude.{◌≡◌, ◌⊎◌, ◌≤◌, IsErrOf, If
 ghost use Rattle.bp_base.specs.Counts.{Rose};
 ghost use Rattle.bp_base.specs.Worlds.{Asks};
 ghost use Rattle.bp_seeds.specs.Sweeps.{IsSweep};
-ghost use Rattle.bpx_cli.specs.Answers.{AreSeedsOf, EndsUnloaded};
+ghost use Rattle.bpx_cli.specs.Answers.{AreSeedsOf, IsUnloaded};
 
 use crate::ended::{Ended, Reply};
 use crate::seeds::Seeds;
@@ -38,7 +38,7 @@ pub(crate) fn seeds_reply<R: Threads + Sync, W: World>(
 ) -> Result<Reply, Ended>
     ensures answers { IfOk result (λ a.
         AreSeedsOf (W.holds world.old) asked.now (string_bytes a.text) × (a.end ≡ Ended.Answered)) }
-    ensures unanswered { IfErr result (EndsUnloaded (W.holds world.old) (asked.now).program) }
+    ensures unanswered { IfErr result (IsUnloaded (W.holds world.old) (asked.now).program) }
     ensures cause { IsErrOf result Ended.NotRead
         → Rose (W.read_faults world.old) (W.read_faults world.new) }
     ensures asks { (IsErrOf result Ended.NoMemory × (W.asked world.new ≡ W.asked world.old))

@@ -1,10 +1,10 @@
 -- What a command says in the normal form, and the command that this says.
 use Rattle.std.specs.Prelude.{ℕ, List, [], ◌∷◌, Option, Some, None, option_and_then, decimal}
 use Rattle.bp_log.specs.Logs.{strategy_name, wait_name}
-use Rattle.bp_matches.specs.declared.key.Key.{Key}
-use Rattle.bp_matches.specs.declared.values.Values.{Values}
-use Rattle.bp_matches.specs.Keys.{keys}
-use Rattle.bp_matches.specs.Normal.{value_in}
+use Rattle.bp_args.specs.declared.key.Key.{Key}
+use Rattle.bp_args.specs.declared.values.Values.{Values}
+use Rattle.bp_args.specs.Keys.{keys}
+use Rattle.bp_args.specs.inner.NormalWords.{value_in}
 use Rattle.bp_args.specs.declared.command.Command.{Command}
 use Rattle.bp_args.specs.declared.command.Command.TheVariants as command
 use Rattle.bp_args.specs.declared.said.Said.{Said}

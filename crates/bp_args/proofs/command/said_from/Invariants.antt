@@ -1,5 +1,5 @@
 use Rattle.std.proofs.Common.{◌≡◌, drop}
-use Rattle.bp_matches.specs.Keys.{keys}
+use Rattle.bp_args.specs.Keys.{keys}
 use Rattle.bp_args.specs.Said.{nothing_said}
 use Rattle.bp_args.specs.inner.Normal.{said_from}
 use Rattle.bp_args.proofs.command.said_from.Given as goal

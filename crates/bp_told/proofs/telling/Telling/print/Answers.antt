@@ -8,6 +8,7 @@ pub loop-line-init : goal.loop-line-init
 loop-line-init g c = record {
   shows = shows_none (g.K.Sink.written c.args.out.now) c.args.self.now.lines;
   log_shows = log_shows_page g.L.Sink.written c.args.log.now c.args.self.now.records;
+  within = λ w. w;
   kept = refl;
   behind = inl refl;
   counts = omega arith;
@@ -44,6 +45,7 @@ loop-line-preserved g c =
           (line_on c.args.self.now.lines c.args.lines.now c.loop-line.line-index c.line-item.result c.loop-line-test.true c.line-item.is)
           c.loop-line.invariant.shows c.in_ok-print_line.ensures.shows;
       log_shows = log_on g.L.Sink.written _ c.loop-line.log _ _ _ _ c.loop-line.invariant.log_shows c.in_ok-print_line.ensures.log_shows;
+      within = λ w. c.in_ok-print_line.ensures.within (c.loop-line.invariant.within w);
       kept = c.print_line.ensures.kept ∙ c.loop-line.invariant.kept;
       behind = behind_on g.L.Sink.written _ c.loop-line.log _ _ c.loop-line.self.records c.print_line.new.self.records _ _ _ c.loop-line.invariant.behind c.loop-line.invariant.log_shows c.print_line.ensures.behind
           (log_stop g.L.Sink.written _ _ _ _ c.in_ok-print_line.ensures.log_shows);

@@ -1,2 +1,0 @@
--- What the contracts inside of this crate cite, and nothing that a command is promised by.
-pub mod Reading
