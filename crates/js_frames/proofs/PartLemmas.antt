@@ -1,5 +1,5 @@
 -- Parts that only give a value, one after the other.
-use Rattle.std.proofs.Common.{◌≡◌, ℕ, ◌-◌, List, [], ◌∷◌, ◌++◌, length, Some, Result, refl, sym, ap, ◌∙◌, subst}
+use Rattle.std.proofs.Common.{◌≡◌, ℕ, List, [], ◌∷◌, ◌++◌, length, Some, Result, refl, sym, ap, ◌∙◌, subst}
 use Rattle.std.specs.Prelude.{IfOk, slice_get}
 use Rattle.std.specs.declared.alloc.AllocError.{AllocError}
 use Rattle.js_value.specs.Value.{PlainValue}
@@ -11,8 +11,10 @@ use Rattle.js_frames.specs.declared.step.Step.{Step}
 use Rattle.js_frames.specs.Places.{Place, Beside, setting_at, state_at}
 use Rattle.js_frames.specs.Frames.{parts_from, plug}
 use Rattle.js_frames.specs.Fits.{StackFits}
-use Rattle.js_frames.specs.inner.Leads.{Rests, Within, Leads, Gave}
-use Rattle.js_frames.proofs.Steps.{limits, within_like, within_trans, within_begun, on_ok}
+use Rattle.js_frames.specs.inner.Leads.{Rests, Within, Leads}
+use Rattle.js_frames.specs.inner.Giving.{Gave}
+use Rattle.js_frames.proofs.Steps.{within_like, within_trans, on_ok}
+use Rattle.js_frames.proofs.GivingLemmas.{gave_within}
 use Rattle.js_frames.proofs.InOrder.{parts_wait}
 
 -- From a place and this many values on, what a node does is what it did from the first ones.
@@ -34,13 +36,9 @@ module _ (base : js.Ground) (old : Place) (n : ℕ) (first : List PlainValue) (m
       let g = setting_at base old in
       let o = slice_get base.program.nodes n in
       let go : PlainValue → State → Outcome = λ y now. parts_from g o (done ++ y ∷ []) now in
-      let same_fuel : next.fuel ≡ mid.fuel - 1 = ap (λ (q : Place). q.fuel) v.one_less in
-      let there : ℕ → Place = λ k. record old { fuel = k } in
-      let less : Place → Place = λ q. record q { fuel = mid.fuel - 1 } in
-      let with_fuel : less mid ≡ there (mid.fuel - 1) = ap less h.place in
       record {
-        place = v.one_less ∙ with_fuel ∙ ap there (sym same_fuel);
-        within = within_begun old mid next h.within v.room (within_like (record mid { fuel = mid.fuel - 1 }) next (ap limits v.one_less));
+        place = v.place ∙ ap (λ (q : Place). record q { fuel = next.fuel }) h.place;
+        within = within_trans old mid next h.within (gave_within base mid next part x v);
         same = λ b.
             ap (λ q. q >>= go) (sym (v.same b) ∙ ap (λ s. eval s part (state_at mid b)) onto_setting)
             ∙ parts_wait g o node at done part get go (λ y now. refl) (state_at mid b)

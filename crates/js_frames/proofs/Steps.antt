@@ -23,11 +23,10 @@ use Rattle.js_frames.specs.declared.step.Step.{Step}
 use Rattle.js_frames.specs.declared.step.Step.TheVariants.{Begin, Give, Ask, Fail, Violate}
 use Rattle.js_frames.specs.declared.frame.Part.{Part}
 use Rattle.js_frames.specs.declared.frame.Frame.{Frame}
-use Rattle.js_frames.specs.declared.frame.Frame.TheVariants.{Waiting}
 use Rattle.js_frames.specs.Places.{Place, Beside, setting_at, state_at}
 use Rattle.js_frames.specs.Frames.{plain_completion, rest, resume, plug, step_outcome, future}
 use Rattle.js_frames.specs.Fits.{IsNode, AreNodes, HasForm, FrameFits, StackFits, StepFits}
-use Rattle.js_frames.specs.inner.Leads.{Rests, Within, Leads, pushed, Keeps, IsSettled, Becomes, Picks, Gives, Gave, node_does, waits_for}
+use Rattle.js_frames.specs.inner.Leads.{Rests, Within, Leads, pushed, Keeps, IsSettled, Becomes, Picks, Gives, node_does, waits_for}
 
 -- the last frame takes the outcome first
 pub plug_pushed : (g : Setting) (st : List Frame) (f : Frame) (o : Outcome) → plug g (st ++ f ∷ []) o ≡ plug g st (resume g f o)
@@ -203,40 +202,6 @@ module _ (base : js.Ground) where
 
   pub becomes_ok : (old : Place) (o : State → Outcome) (q : Setting → State → Outcome) (r : Result Step AllocError) → StackFits base.program old.stack → IfOk r (Becomes q) → ((s : State) → q (setting_at base old) s ≡ o s) → IfOk r (λ step. Leads base old o old step)
   becomes_ok old o q r fits w h = on_ok r (λ step b. becomes old o q step fits b h) w
-
-  -- a part that only gives a value begins
-  pub gave_one : (old new : Place) (n : ℕ) (x : PlainValue) → OnlyGives base old n x → old.floor < old.fuel → new ≡ record old { fuel = old.fuel - 1 } → Gave base old n x new
-  gave_one old new n x h room e =
-      let some : 0 < old.fuel = omega arith in record {
-        same = λ beside. eval_begins (setting_at base old) n (state_at old beside)
-            ∙ begins_one old.fuel (node_does (setting_at base old) n) (state_at old beside) some
-            ∙ h (old.fuel - 1) beside
-            ∙ ap (λ q. gives x (state_at q beside)) (sym e);
-        one_less = e;
-        room = room;
-      }
-
-  pub gave_fits : (old mid : Place) (n : ℕ) (x : PlainValue) → Gave base old n x mid → StackFits base.program old.stack → StackFits base.program mid.stack
-  gave_fits old mid n x v fits = subst (λ (q : Place). StackFits base.program q.stack) (sym v.one_less) fits
-
-  -- what would wait for it goes on with the value
-  pub gave_leads : (old mid new : Place) (part : Part) (n : ℕ) (x : PlainValue) (step : Step) → Gave base old n x mid → Leads base mid (rest (setting_at base mid) part x) new step → Leads base old (waits_for (setting_at base old) (Waiting part) n) new step
-  unfolding resume
-  gave_leads old mid new part n x step v l0 =
-      let g = setting_at base old in
-      let there = record old { fuel = old.fuel - 1 } in
-      let l = subst (λ q. Leads base q (rest (setting_at base q) part x) new step) v.one_less l0 in record {
-        same = λ beside. l.same beside ∙ ap (λ o. plug g old.stack (resume g (Waiting part) o)) (sym (v.same beside ∙ ap (λ q. gives x (state_at q beside)) v.one_less));
-        same_mode = l.same_mode;
-        same_budget = l.same_budget;
-        within = within_begun old old new (within_like old old refl) v.room l.within;
-        stack_fits = l.stack_fits;
-        step_fits = l.step_fits;
-        rests = l.rests;
-      }
-
-  pub gave_on : (old mid new : Place) (part : Part) (n : ℕ) (x : PlainValue) (r : Result Step AllocError) → Gave base old n x mid → IfOk r (λ step. Leads base mid (rest (setting_at base mid) part x) new step) → IfOk r (λ step. Leads base old (waits_for (setting_at base old) (Waiting part) n) new step)
-  gave_on old mid new part n x r v w = on_ok r (λ step l. gave_leads old mid new part n x step v l) w
 
   -- what has to wait
   pub waits_still : (old mid new : Place) (frame : Frame) (part : ℕ) (r : Result Step AllocError) → StackFits base.program old.stack → mid ≡ old → IfOk r (λ step. (step ≡ Begin part) × (new ≡ pushed mid frame)) → FrameFits base.program frame → IsNode base.program part → IfOk r (λ step. Leads base old (waits_for (setting_at base old) frame part) new step)

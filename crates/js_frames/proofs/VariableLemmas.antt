@@ -15,8 +15,9 @@ use Rattle.js_program.specs.PlainProgram as p
 use Rattle.js_program.specs.PlainProgram.{PlainNode, PlainDeclared}
 use Rattle.std.specs.declared.alloc.AllocError.{AllocError}
 use Rattle.js_frames.specs.declared.step.Step.{Step}
-use Rattle.js_frames.specs.Frames.{rest, resume, declares_from, declaring_from}
-use Rattle.js_frames.specs.inner.Leads.{Leads, pushed}
+use Rattle.js_frames.specs.Frames.{rest, resume, plug, declares_from, declaring_from}
+use Rattle.js_frames.specs.inner.Leads.{Rests, Within, Leads, pushed}
+use Rattle.js_frames.specs.inner.Giving.{Gave}
 use Rattle.std.specs.List.{filter_map, cons_option}
 use Rattle.js_frames.specs.declared.step.Step.TheVariants.{Begin}
 use Rattle.js_frames.specs.declared.frame.Part.TheVariants.{Declared}
@@ -24,7 +25,8 @@ use Rattle.js_frames.specs.declared.frame.Frame.TheVariants.{Waiting}
 use Rattle.js_frames.specs.Fits.{IsNode, FrameFits, StackFits}
 use Rattle.js_frames.proofs.InOrder.{bind_twice}
 use Rattle.js_frames.proofs.Lists.{drop_at, drop_past}
-use Rattle.js_frames.proofs.Steps.{limits, moves, moves_ok, on_ok, wait_leads}
+use Rattle.js_frames.proofs.Steps.{limits, within_like, within_trans, moves_ok, on_ok, wait_leads}
+use Rattle.js_frames.proofs.GivingLemmas.{gave_within}
 use Rattle.js_frames.specs.Places.{Place, Beside, setting_at, state_at, put_at, undefined_at, held_at}
 
 pub state_undefined : (kind : DeclareKind) (x : Variable) (old : Place) (b : Beside) → state_at (undefined_at kind x old) b ≡ without_value kind x (state_at old b)
@@ -33,6 +35,10 @@ state_undefined Const (Constant k) old b = refl
 state_undefined Let (Slot k) old b = refl
 state_undefined Let (Constant k) old b = refl
 state_undefined Var x old b = refl
+
+pub state_put : (x : Variable) (y : PlainValue) (old : Place) (b : Beside) → state_at (put_at x y old) b ≡ set_variable x y (state_at old b)
+state_put (Slot k) y old b = refl
+state_put (Constant k) y old b = refl
 
 -- what a variable holds where the machine stands
 pub held_here : (base : js.Ground) (x : Variable) (old : Place) (b : Beside) → held base x (state_at old b) ≡ held_at base x old
@@ -73,11 +79,11 @@ pub record Onward (base : js.Ground) (old : Place) (n place : ℕ) (mid : Place)
   pub stack_same : mid.stack ≡ old.stack
   pub mode_same : mid.mode ≡ old.mode
   pub budget_same : mid.budget ≡ old.budget
-  pub limits_same : limits mid ≡ limits old
+  pub within : Within old mid
   pub same : (b : Beside) → declaring_from (setting_at base old) (slice_get base.program.nodes n) at (state_at mid b) ≡ declaring_from (setting_at base old) (slice_get base.program.nodes n) place (state_at old b)
 
 pub onward_first : (base : js.Ground) (old : Place) (n place : ℕ) → Onward base old n place old place
-onward_first base old n place = record { stack_same = refl; mode_same = refl; budget_same = refl; limits_same = refl; same = λ b. refl }
+onward_first base old n place = record { stack_same = refl; mode_same = refl; budget_same = refl; within = within_like old old refl; same = λ b. refl }
 
 -- what is left of the declarators from one without a value
 skips : (g : Setting) (kind : DeclareKind) (ds : List PlainDeclared) (at : ℕ) (d : PlainDeclared) (s : State) → slice_get ds at ≡ Some d → d.value ≡ None → does_declaration (eval g) kind (drop (at + 1) ds) (without_value kind d.variable s) ≡ does_declaration (eval g) kind (drop at ds) s
@@ -93,7 +99,7 @@ onward_next base old n place mid new at next node kind ds d found is h e get non
       stack_same = ap (λ (q : Place). q.stack) put ∙ kept_stack kind d.variable mid ∙ h.stack_same;
       mode_same = ap (λ (q : Place). q.mode) put ∙ kept_mode kind d.variable mid ∙ h.mode_same;
       budget_same = ap (λ (q : Place). q.budget) put ∙ kept_budget kind d.variable mid ∙ h.budget_same;
-      limits_same = ap limits put ∙ kept_limits kind d.variable mid ∙ h.limits_same;
+      within = within_trans old mid new h.within (within_like mid new (ap limits put ∙ kept_limits kind d.variable mid));
       same = λ b.
           ap (λ k. declaring_from g (slice_get base.program.nodes n) k (state_at new b)) e
           ∙ ap (λ q. declaring_from g (slice_get base.program.nodes n) (at + 1) (state_at q b)) put
@@ -126,15 +132,28 @@ onward_next base old n place mid new at next node kind ds d found is h e get non
     kept_limits Let x m = put_limits x undefined m
     kept_limits Var x m = refl
 
--- what leads on from there leads on from the first place
-pub onward_leads : (base : js.Ground) (old : Place) (n place : ℕ) (mid new : Place) (at : ℕ) (step : Step) → Onward base old n place mid at → Leads base mid (declaring_from (setting_at base old) (slice_get base.program.nodes n) at) new step → Leads base old (declaring_from (setting_at base old) (slice_get base.program.nodes n) place) new step
-onward_leads base old n place mid new at step h l =
-    moves base old mid new _ (declaring_from (setting_at base old) (slice_get base.program.nodes n) at) step h.stack_same h.mode_same h.budget_same h.limits_same h.same l
-
 onward_setting : (base : js.Ground) (old : Place) (n place : ℕ) (mid : Place) (at : ℕ) → Onward base old n place mid at → setting_at base mid ≡ setting_at base old
 onward_setting base old n place mid at h =
     ap (λ q. setting_at base (record mid { mode = q })) h.mode_same
     ∙ ap (λ q. setting_at base (record old { budget = q })) h.budget_same
+
+-- what leads on from there leads on from the first place
+pub onward_leads : (base : js.Ground) (old : Place) (n place : ℕ) (mid new : Place) (at : ℕ) (step : Step) → Onward base old n place mid at → Leads base mid (declaring_from (setting_at base old) (slice_get base.program.nodes n) at) new step → Leads base old (declaring_from (setting_at base old) (slice_get base.program.nodes n) place) new step
+onward_leads base old n place mid new at step h l =
+    let g = setting_at base old in
+    let go = declaring_from g (slice_get base.program.nodes n) at in
+    record {
+      same = λ b. l.same b
+          ∙ ap (λ q. plug q mid.stack (go (state_at mid b))) (onward_setting base old n place mid at h)
+          ∙ ap (λ fs. plug g fs (go (state_at mid b))) h.stack_same
+          ∙ ap (plug g old.stack) (h.same b);
+      same_mode = l.same_mode ∙ h.mode_same;
+      same_budget = l.same_budget ∙ h.budget_same;
+      within = within_trans old mid new h.within l.within;
+      stack_fits = l.stack_fits;
+      step_fits = l.step_fits;
+      rests = subst (λ fs. Rests step fs new.stack) h.stack_same l.rests;
+    }
 
 -- a declarator with a value waits for it
 declarator_waits : (g : Setting) (n place : ℕ) (node : PlainNode) (kind : DeclareKind) (ds : List PlainDeclared) (d : PlainDeclared) (part : ℕ) (s : State) → slice_get g.base.program.nodes n ≡ Some node → node.form ≡ p.declaration kind ds → slice_get ds place ≡ Some d → d.value ≡ Some part → resume g (Waiting (Declared n d.variable (place + 1))) (eval g part s) ≡ declaring_from g (slice_get g.base.program.nodes n) place s
@@ -153,6 +172,26 @@ onward_waits base old n place mid new at node kind ds d part r found is h get va
     (wait_leads base mid new (declaring_from (setting_at base old) (slice_get base.program.nodes n) at) r (Waiting (Declared n d.variable (at + 1))) part (subst (StackFits base.program) (sym h.stack_same) fits) w frame_fits part_fits
     (λ s. declarator_waits (setting_at base mid) n at node kind ds d part s found is get value
     ∙ ap (λ g. declaring_from g (slice_get base.program.nodes n) at s) (onward_setting base old n place mid at h)))
+
+-- a declarator has its value at once
+pub onward_put : (base : js.Ground) (old : Place) (n place : ℕ) (mid between new : Place) (at next : ℕ) (node : PlainNode) (kind : DeclareKind) (ds : List PlainDeclared) (d : PlainDeclared) (part : ℕ) (x : PlainValue) → slice_get base.program.nodes n ≡ Some node → node.form ≡ p.declaration kind ds → Onward base old n place mid at → next ≡ at + 1 → slice_get ds at ≡ Some d → d.value ≡ Some part → Gave base mid part x between → new ≡ put_at d.variable x between → Onward base old n place new next
+unfolding rest resume
+onward_put base old n place mid between new at next node kind ds d part x found is h e get value v put =
+    let g = setting_at base old in
+    let frame = Waiting (Declared n d.variable (at + 1)) in
+    record {
+      stack_same = ap (λ (q : Place). q.stack) put ∙ put_stack d.variable x between ∙ ap (λ (q : Place). q.stack) v.place ∙ h.stack_same;
+      mode_same = ap (λ (q : Place). q.mode) put ∙ put_mode d.variable x between ∙ ap (λ (q : Place). q.mode) v.place ∙ h.mode_same;
+      budget_same = ap (λ (q : Place). q.budget) put ∙ put_budget d.variable x between ∙ ap (λ (q : Place). q.budget) v.place ∙ h.budget_same;
+      within = within_trans old mid new h.within (within_trans mid between new (gave_within base mid between part x v) (within_like between new (ap limits put ∙ put_limits d.variable x between)));
+      same = λ b.
+          ap (λ k. declaring_from g (slice_get base.program.nodes n) k (state_at new b)) e
+          ∙ ap (λ q. declaring_from g (slice_get base.program.nodes n) (at + 1) (state_at q b)) put
+          ∙ ap (declaring_from g (slice_get base.program.nodes n) (at + 1)) (state_put d.variable x between b)
+          ∙ ap (resume g frame) (sym (v.same b) ∙ ap (λ q. eval q part (state_at mid b)) (onward_setting base old n place mid at h))
+          ∙ declarator_waits g n at node kind ds d part (state_at mid b) found is get value
+          ∙ h.same b;
+    }
 
 -- no declarator is left
 pub declaring_over : (g : Setting) (n place : ℕ) (node : PlainNode) (kind : DeclareKind) (ds : List PlainDeclared) (s : State) → slice_get g.base.program.nodes n ≡ Some node → node.form ≡ p.declaration kind ds → slice_get ds place ≡ None → leaves s ≡ declaring_from g (slice_get g.base.program.nodes n) place s

@@ -1,3 +1,5 @@
 -- What the contracts inside of this crate cite, and nothing that a command is promised by.
 pub mod Leads
 pub mod Reading
+pub mod Giving
+pub mod Doing

@@ -14,12 +14,13 @@ ghost use Rattle.js_meaning.specs.Meaning.{eval};
 ghost use Rattle.js_frames.specs.Places.{here, place_of, plain_ground, held_at};
 ghost use Rattle.js_frames.specs.Frames.{writes_behind};
 ghost use Rattle.js_frames.specs.Fits.{StackFits, IsNode};
-ghost use Rattle.js_frames.specs.inner.Leads.{Goes, Becomes};
+ghost use Rattle.js_frames.specs.inner.Leads.{Goes, Becomes, waits_for};
 
 use crate::calls::function_of;
 use crate::engine::Engine;
 use crate::frame::{Frame, Part};
 use crate::ground::Ground;
+use crate::leaves::AGAIN_DEPTH;
 use crate::operators::{op_before, step_for};
 use crate::slots::Slots;
 use crate::step::{Step, answered, failed, give};
@@ -190,8 +191,30 @@ impl Engine {
             self.new result }
     {
         match op_before(operator) {
-            None => self.wait(part, Frame::Waiting(Part::Assigned(slot, line))),
+            None => self.begin_assigned(base, slot, part, line),
             Some(op) => self.assign_with(base, op, slot, part, line),
+        }
+    }
+
+    /// The value of `x = e` begins: the variable has it at once, or waits for it.
+    #[inline(always)]
+    fn begin_assigned(
+        &mut self,
+        base: &Ground,
+        slot: u32,
+        part: u32,
+        line: u32,
+    ) -> Result<Step, Memory>
+        requires part { IsNode base.now.program part }
+        requires fits { StackFits base.now.program self.old.stack.items }
+        ensures { Goes base.now self.old
+            (waits_for (here base.now self.old) (Frame.Waiting (Part.Assigned slot line)) part)
+            self.new result }
+    {
+        let found = self.begin_leaf(base, part, AGAIN_DEPTH)?;
+        match found {
+            None => self.wait(part, Frame::Waiting(Part::Assigned(slot, line))),
+            Some(value) => self.assigned(base, slot, line, value),
         }
     }
 

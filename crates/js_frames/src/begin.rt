@@ -19,14 +19,6 @@ use js_tree::Operator;
 use js_value::Value;
 use std::sync::Arc;
 
-/// What waits for a test, and begins one of two.
-#[inline(always)]
-fn choice(yes: u32, no: u32) -> Frame
-    ensures { result ≡ Frame.Waiting (Part.Choice yes no) }
-{
-    Frame::Waiting(Part::Choice(yes, no))
-}
-
 /// What a loop runs.
 #[inline(always)]
 fn cycle(test: Option<u32>, body: u32, next: Option<u32>) -> Loop
@@ -102,7 +94,7 @@ impl Engine {
             }
             NodeForm::Member(part, word) => self.begin_member(base, number, node, *part, word),
             NodeForm::Index(part, _) => self.begin_first(base, number, *part),
-            NodeForm::Expression(part) => self.wait(*part, Frame::Waiting(Part::Dropped)),
+            NodeForm::Expression(part) => self.begin_dropped(base, *part),
             NodeForm::Assign(operator, slot, part) => {
                 self.assign(base, *operator, *slot, *part, node.line)
             }
@@ -142,7 +134,7 @@ impl Engine {
             NodeForm::Binary(operator, left, right) => {
                 self.wait(*left, operand(*operator, *right, number))
             }
-            NodeForm::Conditional(test, yes, no) => self.wait(*test, choice(*yes, *no)),
+            NodeForm::Conditional(test, yes, no) => self.begin_choice(base, *test, *yes, *no),
             NodeForm::Assign(operator, slot, part) => {
                 self.assign(base, *operator, *slot, *part, node.line)
             }
@@ -151,8 +143,8 @@ impl Engine {
             NodeForm::Block(slots, _) => self.block(base, slots, number),
             NodeForm::Declaration(_, _) => self.go_on_declaring(base, number, 0),
             NodeForm::Expression(part) => self.wait(*part, Frame::Waiting(Part::Dropped)),
-            NodeForm::If(test, body) => self.wait(*test, Frame::Waiting(Part::When(*body))),
-            NodeForm::IfElse(test, yes, no) => self.wait(*test, choice(*yes, *no)),
+            NodeForm::If(test, body) => self.begin_when(base, *test, *body),
+            NodeForm::IfElse(test, yes, no) => self.begin_choice(base, *test, *yes, *no),
             NodeForm::While(test, body) => self.test(base, cycle(Some(*test), *body, None)),
             NodeForm::ForThree(slots, first, test, next, body) => {
                 self.start_loop(base, slots, *first, cycle(*test, *body, *next))
@@ -163,7 +155,7 @@ impl Engine {
             NodeForm::Break => Ok(Step::Give(Completion::Broke)),
             NodeForm::Continue => Ok(Step::Give(Completion::Continued)),
             NodeForm::ReturnNothing => Ok(Step::Give(Completion::Returned(Value::Undefined))),
-            NodeForm::Return(part) => self.wait(*part, Frame::Waiting(Part::Returned)),
+            NodeForm::Return(part) => self.begin_returned(base, *part),
         }
     }
 }

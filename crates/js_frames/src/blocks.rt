@@ -11,6 +11,7 @@ ghost use Rattle.js_frames.specs.inner.Leads.{Goes};
 use crate::engine::Engine;
 use crate::frame::{Frame, Part, Sequence};
 use crate::ground::Ground;
+use crate::leaves::MOST_DEPTH;
 use crate::nodes::node_of;
 use crate::step::{Step, leave};
 use crate::values::number_at;
@@ -86,7 +87,8 @@ impl Engine {
         self.go_on(base, Sequence::Block(number), 0)
     }
 
-    /// The statement at this place begins, if there is one.
+    /// The statements from this place on that are done at once; then the next one begins, if there is
+    /// one.
     #[inline(always)]
     pub(crate) fn go_on(
         &mut self,
@@ -99,16 +101,18 @@ impl Engine {
         ensures { Goes base.now self.old (sequence_from (here base.now self.old) sequence place)
             self.new result }
     {
-        match number_at(statements_of(base, sequence), place) {
-            None => Ok(leave()),
-            Some(statement) => self.wait(
-                statement,
-                Frame::Waiting(Part::Statements(sequence, place + 1)),
-            ),
+        let mut at = place;
+        while let Some(statement) = number_at(statements_of(base, sequence), at) {
+            at += 1;
+            if !self.state_at_once(base, statement) {
+                return self.wait(statement, Frame::Waiting(Part::Statements(sequence, at)));
+            }
         }
+        Ok(leave())
     }
 
-    /// The declarators from this place on: the value of the first that has one begins.
+    /// The declarators from this place on: each that has no value, or one that is given at once; then
+    /// the value of the next one begins, if there is one.
     #[inline(never)]
     pub(crate) fn go_on_declaring(
         &mut self,
@@ -132,10 +136,16 @@ impl Engine {
             match declarator.value {
                 None => self.declare_without(*kind, declarator.variable),
                 Some(part) => {
-                    return self.wait(
-                        part,
-                        Frame::Waiting(Part::Declared(number, declarator.variable, at)),
-                    );
+                    let found = self.begin_leaf(base, part, MOST_DEPTH)?;
+                    match found {
+                        None => {
+                            return self.wait(
+                                part,
+                                Frame::Waiting(Part::Declared(number, declarator.variable, at)),
+                            );
+                        }
+                        Some(value) => self.put(declarator.variable, value),
+                    }
                 }
             }
         }

@@ -8,6 +8,7 @@ mod blocks;
 mod branches;
 mod calls;
 mod crossing;
+mod doing;
 mod effect;
 mod engine;
 mod for_each;

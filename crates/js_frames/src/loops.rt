@@ -7,11 +7,12 @@ ghost use Rattle.js_meaning.specs.Meaning.{eval};
 ghost use Rattle.js_frames.specs.Places.{here};
 ghost use Rattle.js_frames.specs.Frames.{plain_completion, rest, again, resume, loop, starts_loop, items_from};
 ghost use Rattle.js_frames.specs.Fits.{StackFits, IsNode, IsPerhapsNode, LoopFits, IterationFits};
-ghost use Rattle.js_frames.specs.inner.Leads.{Goes};
+ghost use Rattle.js_frames.specs.inner.Leads.{Goes, waits_for};
 
 use crate::engine::Engine;
 use crate::frame::{Frame, Iteration, Loop, Part};
 use crate::ground::Ground;
+use crate::leaves::MOST_DEPTH;
 use crate::step::{Completion, Step, leave, mistyped};
 use crate::values::item_at;
 use js_data::Memory;
@@ -52,7 +53,24 @@ impl Engine {
     {
         match cycle.test {
             None => self.iteration(base, cycle),
-            Some(part) => self.wait(part, Frame::Waiting(Part::Tested(cycle))),
+            Some(part) => self.begin_test(base, cycle, part),
+        }
+    }
+
+    /// The test of a loop begins: its value decides at once, or is waited for.
+    #[inline(always)]
+    fn begin_test(&mut self, base: &Ground, cycle: Loop, part: u32) -> Result<Step, Memory>
+        requires cycle { LoopFits base.now.program cycle }
+        requires part { IsNode base.now.program part }
+        requires fits { StackFits base.now.program self.old.stack.items }
+        ensures { Goes base.now self.old
+            (waits_for (here base.now self.old) (Frame.Waiting (Part.Tested cycle)) part)
+            self.new result }
+    {
+        let found = self.begin_leaf(base, part, MOST_DEPTH)?;
+        match found {
+            None => self.wait(part, Frame::Waiting(Part::Tested(cycle))),
+            Some(value) => self.tested(base, cycle, value),
         }
     }
 
@@ -100,7 +118,7 @@ impl Engine {
     {
         match cycle.next {
             None => self.test(base, cycle),
-            Some(part) => self.wait(part, Frame::Waiting(Part::Between(cycle))),
+            Some(part) => self.begin_between(base, cycle, part),
         }
     }
 

@@ -23,6 +23,7 @@ ghost use Rattle.js_frames.specs.inner.Leads.{Goes, Becomes};
 use crate::engine::Engine;
 use crate::frame::{Frame, Part};
 use crate::ground::Ground;
+use crate::leaves::MOST_DEPTH;
 use crate::nodes::node_of;
 use crate::operators::{op_for, unary_for};
 use crate::step::{Step, answered, failed, mistyped};
@@ -173,7 +174,7 @@ impl Engine {
         let node = node_of(base, number);
         let mut values = done;
         while let Some(part) = part_at(&node.form, values.len()) {
-            let found = self.begin_leaf(base, part)?;
+            let found = self.begin_leaf(base, part, MOST_DEPTH)?;
             match found {
                 None => return self.wait(part, Frame::Waiting(Part::Further(number, values))),
                 Some(value) => values.push(value)?,

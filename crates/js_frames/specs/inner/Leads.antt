@@ -1,5 +1,5 @@
 -- What one step of a machine, and many, keep.
-use Rattle.std.specs.Prelude.{◌⊎◌, ◌≡◌, ℕ, ◌+◌, ◌-◌, ◌≤◌, ◌<◌, List, [], ◌∷◌, ◌++◌, slice_get, pos, IfOk, Option, Some, None, Result}
+use Rattle.std.specs.Prelude.{◌⊎◌, ◌≡◌, ℕ, ◌+◌, ◌≤◌, List, [], ◌∷◌, ◌++◌, slice_get, pos, IfOk, Option, Some, None, Result}
 use Rattle.std.specs.declared.alloc.AllocError.{AllocError}
 use Rattle.js_ops.specs.declared.op_fault.OpFault.{OpFault}
 use Rattle.js_ops.specs.declared.op_fault.OpFault.TheVariants as op_fault
@@ -12,7 +12,7 @@ use Rattle.js_frames.specs.declared.frame.Walk.{Walk}
 use Rattle.js_value.specs.Views.{plain_value}
 use Rattle.js_program.specs.PlainProgram as p
 use Rattle.js_program.specs.PlainProgram.{PlainNodeForm, PlainNode, PlainContent, PlainProgram}
-use Rattle.js_meaning.specs.State.{Setting, State, Outcome, gives}
+use Rattle.js_meaning.specs.State.{Setting, State, Outcome}
 use Rattle.js_meaning.specs.Meaning.{does_node, eval, iterations_of}
 use Rattle.js_frames.specs.declared.step.Completion.TheVariants.{Normal}
 use Rattle.js_frames.specs.declared.step.Step.{Step}
@@ -135,14 +135,6 @@ leaf_at base m _ = None
 abbrev pub leaf_of : js.Ground → Place → Option PlainNode → Option PlainValue
 leaf_of base m None = None
 leaf_of base m (Some node) = leaf_at base m node.form
-
--- The part began, within the slice, and gave this value; nothing but the fuel is another.
-pub record Gave (base : js.Ground) (old : Place) (part : ℕ) (x : PlainValue) (new : Place)
-    : Type 0 where
-  pub same : (beside : Beside) →
-      eval (setting_at base old) part (state_at old beside) ≡ gives x (state_at new beside)
-  pub one_less : new ≡ record old { fuel = old.fuel - 1 }
-  pub room : old.floor < old.fuel
 
 -- what a part does, and then the frame that waits for it
 abbrev pub waits_for : Setting → Frame → ℕ → State → Outcome

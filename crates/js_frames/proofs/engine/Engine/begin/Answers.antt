@@ -3,7 +3,7 @@ use Rattle.std.proofs.Common.{refl}
 use Rattle.js_frames.specs.Places.{plain_ground, place_of, here}
 use Rattle.js_frames.specs.Fits.{IsShort}
 use Rattle.js_frames.specs.Frames.{rest, resume}
-use Rattle.js_frames.proofs.Steps.{begin_means, begin_waits, begin_gives, part_is, has_form}
+use Rattle.js_frames.proofs.Steps.{begin_means, begin_gives, part_is, has_form}
 use Rattle.js_frames.proofs.BeginLemmas.{operand_begins, short_begins}
 use Rattle.js_frames.proofs.engine.Engine.begin.Goals as goal
 
@@ -18,7 +18,10 @@ returns-in-Assign c = begin_means (plain_ground c.args.base.now) (place_of c.arg
 
 pub returns-in-Expression : goal.returns-in-Expression
 unfolding resume rest
-returns-in-Expression c = begin_waits (plain_ground c.args.base.now) (place_of c.args.self.now) c.args.number c.node_of-node.result.now c.node_of-node.ensures.node _ c.in-Expression.is _ c.wait.result _ _ c.requires.fits c.wait.ensures tt (part_is (plain_ground c.args.base.now) (place_of c.args.self.now) c.args.number c.node_of-node.result.now c.node_of-node.ensures.node _ c.in-Expression.is c.node_of-node.ensures.parts 0 _ refl) (λ s. refl)
+returns-in-Expression c = begin_means (plain_ground c.args.base.now) (place_of c.args.self.now) c.args.number c.node_of-node.result.now c.node_of-node.ensures.node _ c.in-Expression.is _ c.begin_dropped.result _ c.begin_dropped.ensures (λ s. refl)
+
+pub begin_dropped-requires-clause-part : goal.begin_dropped-requires-clause-part
+begin_dropped-requires-clause-part c = part_is (plain_ground c.args.base.now) (place_of c.args.self.now) c.args.number c.node_of-node.result.now c.node_of-node.ensures.node _ c.in-Expression.is c.node_of-node.ensures.parts 0 _ refl
 
 pub operator-requires : goal.operator-requires
 operator-requires c = record {

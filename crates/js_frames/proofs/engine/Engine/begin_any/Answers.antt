@@ -1,7 +1,5 @@
 -- What each node does that has begun.
 use Rattle.std.proofs.Common.{[], refl, sym, ap, ◌∙◌, subst}
-use Rattle.js_frames.specs.declared.frame.Part.TheVariants.{Choice}
-use Rattle.js_frames.specs.declared.frame.Frame.TheVariants.{Waiting}
 use Rattle.js_frames.specs.Places.{plain_ground, place_of, here}
 use Rattle.js_frames.specs.Fits.{AreNodes, IsShort, IsDeclaration, LoopFits}
 use Rattle.js_meaning.specs.Variables.{undeclare}
@@ -85,11 +83,29 @@ returns-in-Unary c = begin_waits (plain_ground c.args.base.now) (place_of c.args
 
 pub returns-in-Conditional : goal.returns-in-Conditional
 unfolding resume rest
-returns-in-Conditional c = begin_waits (plain_ground c.args.base.now) (place_of c.args.self.now) c.args.number c.node_of-node.result.now c.node_of-node.ensures.node _ c.in-Conditional.is _ c.wait-in-Conditional.result (Waiting (Choice c.in-Conditional.yes c.in-Conditional.no)) _ c.requires.fits (wait_for _ _ _ _ _ _ c.choice.ensures c.wait-in-Conditional.ensures) (part_is (plain_ground c.args.base.now) (place_of c.args.self.now) c.args.number c.node_of-node.result.now c.node_of-node.ensures.node _ c.in-Conditional.is c.node_of-node.ensures.parts 1 _ refl, part_is (plain_ground c.args.base.now) (place_of c.args.self.now) c.args.number c.node_of-node.result.now c.node_of-node.ensures.node _ c.in-Conditional.is c.node_of-node.ensures.parts 2 _ refl) (part_is (plain_ground c.args.base.now) (place_of c.args.self.now) c.args.number c.node_of-node.result.now c.node_of-node.ensures.node _ c.in-Conditional.is c.node_of-node.ensures.parts 0 _ refl) (λ s. refl)
+returns-in-Conditional c = begin_means (plain_ground c.args.base.now) (place_of c.args.self.now) c.args.number c.node_of-node.result.now c.node_of-node.ensures.node _ c.in-Conditional.is _ c.begin_choice.result _ c.begin_choice.ensures (λ s. refl)
+
+pub begin_choice-requires-clause-part : goal.begin_choice-requires-clause-part
+begin_choice-requires-clause-part c = part_is (plain_ground c.args.base.now) (place_of c.args.self.now) c.args.number c.node_of-node.result.now c.node_of-node.ensures.node _ c.in-Conditional.is c.node_of-node.ensures.parts 0 _ refl
+
+pub begin_choice-requires-clause-yes : goal.begin_choice-requires-clause-yes
+begin_choice-requires-clause-yes c = part_is (plain_ground c.args.base.now) (place_of c.args.self.now) c.args.number c.node_of-node.result.now c.node_of-node.ensures.node _ c.in-Conditional.is c.node_of-node.ensures.parts 1 _ refl
+
+pub begin_choice-requires-clause-no : goal.begin_choice-requires-clause-no
+begin_choice-requires-clause-no c = part_is (plain_ground c.args.base.now) (place_of c.args.self.now) c.args.number c.node_of-node.result.now c.node_of-node.ensures.node _ c.in-Conditional.is c.node_of-node.ensures.parts 2 _ refl
 
 pub returns-in-IfElse : goal.returns-in-IfElse
 unfolding resume rest
-returns-in-IfElse c = begin_waits (plain_ground c.args.base.now) (place_of c.args.self.now) c.args.number c.node_of-node.result.now c.node_of-node.ensures.node _ c.in-IfElse.is _ c.wait-in-IfElse.result (Waiting (Choice c.in-IfElse.yes c.in-IfElse.no)) _ c.requires.fits (wait_for _ _ _ _ _ _ c.choice-in-IfElse.ensures c.wait-in-IfElse.ensures) (part_is (plain_ground c.args.base.now) (place_of c.args.self.now) c.args.number c.node_of-node.result.now c.node_of-node.ensures.node _ c.in-IfElse.is c.node_of-node.ensures.parts 1 _ refl, part_is (plain_ground c.args.base.now) (place_of c.args.self.now) c.args.number c.node_of-node.result.now c.node_of-node.ensures.node _ c.in-IfElse.is c.node_of-node.ensures.parts 2 _ refl) (part_is (plain_ground c.args.base.now) (place_of c.args.self.now) c.args.number c.node_of-node.result.now c.node_of-node.ensures.node _ c.in-IfElse.is c.node_of-node.ensures.parts 0 _ refl) (λ s. refl)
+returns-in-IfElse c = begin_means (plain_ground c.args.base.now) (place_of c.args.self.now) c.args.number c.node_of-node.result.now c.node_of-node.ensures.node _ c.in-IfElse.is _ c.begin_choice-in-IfElse.result _ c.begin_choice-in-IfElse.ensures (λ s. refl)
+
+pub begin_choice-requires-in-IfElse-clause-part : goal.begin_choice-requires-in-IfElse-clause-part
+begin_choice-requires-in-IfElse-clause-part c = part_is (plain_ground c.args.base.now) (place_of c.args.self.now) c.args.number c.node_of-node.result.now c.node_of-node.ensures.node _ c.in-IfElse.is c.node_of-node.ensures.parts 0 _ refl
+
+pub begin_choice-requires-in-IfElse-clause-yes : goal.begin_choice-requires-in-IfElse-clause-yes
+begin_choice-requires-in-IfElse-clause-yes c = part_is (plain_ground c.args.base.now) (place_of c.args.self.now) c.args.number c.node_of-node.result.now c.node_of-node.ensures.node _ c.in-IfElse.is c.node_of-node.ensures.parts 1 _ refl
+
+pub begin_choice-requires-in-IfElse-clause-no : goal.begin_choice-requires-in-IfElse-clause-no
+begin_choice-requires-in-IfElse-clause-no c = part_is (plain_ground c.args.base.now) (place_of c.args.self.now) c.args.number c.node_of-node.result.now c.node_of-node.ensures.node _ c.in-IfElse.is c.node_of-node.ensures.parts 2 _ refl
 
 pub returns-in-Expression : goal.returns-in-Expression
 unfolding resume rest
@@ -97,11 +113,20 @@ returns-in-Expression c = begin_waits (plain_ground c.args.base.now) (place_of c
 
 pub returns-in-Return : goal.returns-in-Return
 unfolding resume rest
-returns-in-Return c = begin_waits (plain_ground c.args.base.now) (place_of c.args.self.now) c.args.number c.node_of-node.result.now c.node_of-node.ensures.node _ c.in-Return.is _ c.wait-in-Return.result _ _ c.requires.fits c.wait-in-Return.ensures tt (part_is (plain_ground c.args.base.now) (place_of c.args.self.now) c.args.number c.node_of-node.result.now c.node_of-node.ensures.node _ c.in-Return.is c.node_of-node.ensures.parts 0 _ refl) (λ s. refl)
+returns-in-Return c = begin_means (plain_ground c.args.base.now) (place_of c.args.self.now) c.args.number c.node_of-node.result.now c.node_of-node.ensures.node _ c.in-Return.is _ c.begin_returned.result _ c.begin_returned.ensures (λ s. refl)
+
+pub begin_returned-requires-clause-part : goal.begin_returned-requires-clause-part
+begin_returned-requires-clause-part c = part_is (plain_ground c.args.base.now) (place_of c.args.self.now) c.args.number c.node_of-node.result.now c.node_of-node.ensures.node _ c.in-Return.is c.node_of-node.ensures.parts 0 _ refl
 
 pub returns-in-If : goal.returns-in-If
 unfolding resume rest
-returns-in-If c = begin_waits (plain_ground c.args.base.now) (place_of c.args.self.now) c.args.number c.node_of-node.result.now c.node_of-node.ensures.node _ c.in-If.is _ c.wait-in-If.result _ _ c.requires.fits c.wait-in-If.ensures (part_is (plain_ground c.args.base.now) (place_of c.args.self.now) c.args.number c.node_of-node.result.now c.node_of-node.ensures.node _ c.in-If.is c.node_of-node.ensures.parts 1 _ refl) (part_is (plain_ground c.args.base.now) (place_of c.args.self.now) c.args.number c.node_of-node.result.now c.node_of-node.ensures.node _ c.in-If.is c.node_of-node.ensures.parts 0 _ refl) (λ s. refl)
+returns-in-If c = begin_means (plain_ground c.args.base.now) (place_of c.args.self.now) c.args.number c.node_of-node.result.now c.node_of-node.ensures.node _ c.in-If.is _ c.begin_when.result _ c.begin_when.ensures (λ s. refl)
+
+pub begin_when-requires-clause-part : goal.begin_when-requires-clause-part
+begin_when-requires-clause-part c = part_is (plain_ground c.args.base.now) (place_of c.args.self.now) c.args.number c.node_of-node.result.now c.node_of-node.ensures.node _ c.in-If.is c.node_of-node.ensures.parts 0 _ refl
+
+pub begin_when-requires-clause-body : goal.begin_when-requires-clause-body
+begin_when-requires-clause-body c = part_is (plain_ground c.args.base.now) (place_of c.args.self.now) c.args.number c.node_of-node.result.now c.node_of-node.ensures.node _ c.in-If.is c.node_of-node.ensures.parts 1 _ refl
 
 pub returns-in-Binary : goal.returns-in-Binary
 returns-in-Binary c = begin_waits (plain_ground c.args.base.now) (place_of c.args.self.now) c.args.number c.node_of-node.result.now c.node_of-node.ensures.node _ c.in-Binary.is _ c.wait-in-Binary.result (operand_frame c.in-Binary.operator c.in-Binary.right c.args.number) _ c.requires.fits (wait_for _ _ _ _ _ _ c.operand.ensures c.wait-in-Binary.ensures) (operand_fits (let p = c.args.base.now in p.program) c.in-Binary.operator c.in-Binary.right c.args.number c.requires.number (part_is (plain_ground c.args.base.now) (place_of c.args.self.now) c.args.number c.node_of-node.result.now c.node_of-node.ensures.node _ c.in-Binary.is c.node_of-node.ensures.parts 1 _ refl) (has_form (plain_ground c.args.base.now) (place_of c.args.self.now) c.args.number c.node_of-node.result.now c.node_of-node.ensures.node _ c.in-Binary.is IsShort tt)) (part_is (plain_ground c.args.base.now) (place_of c.args.self.now) c.args.number c.node_of-node.result.now c.node_of-node.ensures.node _ c.in-Binary.is c.node_of-node.ensures.parts 0 _ refl) (λ s. operand_begins (here c.args.base.now c.args.self.now) c.args.number c.node_of-node.result.now c.node_of-node.ensures.node _ _ s c.in-Binary.operator c.in-Binary.is)

@@ -5,8 +5,9 @@ use Rattle.js_frames.specs.declared.frame.Part.TheVariants.{First}
 use Rattle.js_frames.specs.declared.frame.Frame.TheVariants.{Waiting}
 use Rattle.js_frames.specs.Places.{plain_ground, place_of}
 use Rattle.js_frames.specs.Frames.{rest}
-use Rattle.js_frames.specs.inner.Leads.{Gave}
-use Rattle.js_frames.proofs.Steps.{gave_fits, gave_on, waits_still}
+use Rattle.js_frames.specs.inner.Giving.{Gave}
+use Rattle.js_frames.proofs.Steps.{waits_still}
+use Rattle.js_frames.proofs.GivingLemmas.{gave_fits, gave_on}
 use Rattle.js_frames.proofs.engine.Engine.begin_first.Goals as goal
 
 pub returns-in-None : goal.returns-in-None
@@ -17,9 +18,9 @@ returns-in-None c =
 pub returns-in-Some : goal.returns-in-Some
 unfolding rest
 returns-in-Some c =
-    gave_on (plain_ground c.args.base.now) (place_of c.args.self.now) (place_of c.begin_leaf.new.self) _ (First c.args.number) c.args.part (plain_value c.in-Some.value) c.first.result
+    gave_on (plain_ground c.args.base.now) (place_of c.args.self.now) (place_of c.begin_leaf.new.self) c.args.part (plain_value c.in-Some.value)
     (subst (λ o. IfSome o (λ value. Gave (plain_ground c.args.base.now) (place_of c.args.self.now) c.args.part (plain_value value) (place_of c.begin_leaf.new.self))) c.in-Some.is c.in_ok-found.ensures.some)
-    c.first.ensures
+    _ (First c.args.number) c.first.result c.first.ensures
 
 pub first-requires : goal.first-requires
 first-requires c = record {

@@ -1,13 +1,13 @@
-use Rattle.std.proofs.Common.{◌≡◌, ◌-◌, refl, sym, ap, ◌∙◌, subst, arith}
+use Rattle.std.proofs.Common.{◌≡◌, ◌<◌, refl, sym, ap, ◌∙◌, subst, arith}
 use Rattle.std.specs.Prelude.{slice_get, IfSome, IfNone}
 use Rattle.js_value.specs.Views.{plain_value}
 use Rattle.js_program.specs.PlainProgram.{parts_of}
 use Rattle.js_program.specs.Views.{plain_node, plain_node_form}
 use Rattle.js_frames.specs.declared.frame.Part.TheVariants.{Further}
 use Rattle.js_frames.specs.declared.frame.Frame.TheVariants.{Waiting}
-use Rattle.js_frames.specs.Places.{Place, plain_ground, place_of, setting_at}
+use Rattle.js_frames.specs.Places.{plain_ground, place_of, setting_at}
 use Rattle.js_frames.specs.Frames.{rest, resume}
-use Rattle.js_frames.specs.inner.Leads.{Gave}
+use Rattle.js_frames.specs.inner.Giving.{Gave}
 use Rattle.js_frames.proofs.Steps.{waits_still, means_ok}
 use Rattle.js_frames.proofs.InOrder.{parts_wait, parts_done}
 use Rattle.js_frames.proofs.PartLemmas.{Onto, onto_first, onto_next, onto_leads, onto_fits}
@@ -33,8 +33,7 @@ loop-part-smaller c =
     let mid = place_of c.loop-part.self in
     let next = place_of c.begin_leaf.new.self in
     let gave = subst (λ o. IfSome o (λ value. Gave base mid c.in-Some.part (plain_value value) next)) c.in-Some-found.is c.in_ok-found.ensures.some in
-    let less : next.fuel ≡ mid.fuel - 1 = ap (λ (q : Place). q.fuel) gave.one_less in
-    let room = gave.room in
+    let less : next.fuel < mid.fuel = gave.less in
     omega arith
 
 pub returns-in-None : goal.returns-in-None

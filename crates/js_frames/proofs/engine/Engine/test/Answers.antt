@@ -2,7 +2,7 @@ use Rattle.std.proofs.Common.{subst}
 use Rattle.js_frames.specs.Places.{plain_ground, here}
 use Rattle.js_frames.specs.Fits.{IsPerhapsNode}
 use Rattle.js_frames.specs.Frames.{resume}
-use Rattle.js_frames.proofs.Steps.{wait_leads, means_ok}
+use Rattle.js_frames.proofs.Steps.{means_ok}
 use Rattle.js_frames.proofs.LoopLemmas.{loop_without_test, loop_with_test}
 use Rattle.js_frames.proofs.engine.Engine.test.Goals as goal
 
@@ -12,5 +12,9 @@ returns-in-None c = means_ok (plain_ground c.args.base.now) _ _ _ _ c.iteration.
 pub returns-in-Some : goal.returns-in-Some
 unfolding resume
 returns-in-Some c =
+    means_ok (plain_ground c.args.base.now) _ _ _ _ c.begin_test.result c.begin_test.ensures (λ s. loop_with_test (here c.args.base.now c.args.self.now) c.args.cycle s c.in-Some.part c.in-Some.is)
+
+pub begin_test-requires-clause-part : goal.begin_test-requires-clause-part
+begin_test-requires-clause-part c =
     let t = c.requires.cycle in
-    wait_leads (plain_ground c.args.base.now) _ _ _ c.wait.result _ _ c.requires.fits c.wait.ensures t (subst (IsPerhapsNode (let b = c.args.base.now in b.program)) c.in-Some.is t.test) (λ s. loop_with_test (here c.args.base.now c.args.self.now) c.args.cycle s c.in-Some.part c.in-Some.is)
+    subst (IsPerhapsNode (let b = c.args.base.now in b.program)) c.in-Some.is t.test
