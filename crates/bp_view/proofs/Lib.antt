@@ -1,0 +1,6 @@
+pub mod Steps
+pub mod Growths
+pub mod Looks
+pub mod Watches
+pub mod Examples
+pub mod RunViews

@@ -1,0 +1,3 @@
+-- What the contracts inside of this crate cite.
+pub mod Published
+pub mod Going
