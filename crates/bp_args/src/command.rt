@@ -54,7 +54,7 @@ pub enum Command {
 }
 
 /// Why there is not a command.
-#[derive(Clone, Copy, Debug, PartialEq, Eq, Error)]
+#[derive(Clone, Copy, Debug, Error)]
 pub enum Usage {
     /// The words are no command.
     #[error("the words are no command")]

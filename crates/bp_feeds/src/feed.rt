@@ -22,7 +22,7 @@ pub struct Feed<S> {
 }
 
 /// What a turn did.
-#[derive(Clone, Copy, PartialEq, Eq)]
+#[derive(Clone, Copy)]
 pub enum Fed {
     /// An item found no place and is kept.
     Full,

@@ -2,7 +2,7 @@
 use bp_log::Item;
 
 /// Why an item is not absorbed. The item comes back.
-#[derive(Debug, Drop)]
+#[derive(Drop)]
 pub enum Absorb {
     /// As many events wait as may.
     Full(Item),

@@ -1,7 +1,7 @@
 //! What can be done with a floor.
 
 /// What can be done with a floor.
-#[derive(Clone, Copy, PartialEq, Eq)]
+#[derive(Clone, Copy)]
 pub enum Phase {
     /// Something is to be run; its jobs, if it has any, can be lent.
     Ready,

@@ -39,7 +39,7 @@ pub enum Verdict {
 }
 
 /// The kinds of verdicts.
-#[derive(Clone, Copy, Debug, PartialEq, Eq)]
+#[derive(Clone, Copy)]
 pub enum VerdictKind {
     /// Nothing can be selected any more.
     Quiet,

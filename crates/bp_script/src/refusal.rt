@@ -6,7 +6,7 @@ use js_data::{Memory, Text};
 use std::alloc::Global;
 
 /// What is wrong on a line of a program.
-#[derive(Clone, Copy, Debug, PartialEq, Eq)]
+#[derive(Clone, Copy, Debug)]
 pub enum Kind {
     /// A character that is not a token.
     Character,
@@ -51,7 +51,7 @@ impl Kind {
 }
 
 /// The rule that a name breaks.
-#[derive(Clone, Copy, Debug, PartialEq, Eq)]
+#[derive(Clone, Copy, Debug)]
 pub enum Rule {
     /// Nothing declares it.
     Unknown,

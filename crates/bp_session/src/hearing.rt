@@ -29,7 +29,7 @@ pub(crate) struct Hearing {
 }
 
 /// Why an injector is not heard further. The item at which it stopped is kept.
-#[derive(Clone, Copy, Debug, PartialEq, Eq, Error)]
+#[derive(Clone, Copy, Debug, Error)]
 enum HearFault {
     /// Its source failed.
     #[error("the source failed")]

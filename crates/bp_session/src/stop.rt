@@ -6,7 +6,7 @@ use std::alloc::AllocError;
 use thiserror::Error;
 
 /// Why serving stopped. A verdict may be recorded all the same: telling or writing it can fail.
-#[derive(Clone, Copy, Debug, PartialEq, Eq, Error)]
+#[derive(Clone, Copy, Debug, Error)]
 pub(crate) enum Stop {
     /// The source of this injector failed.
     #[error("the source of injector {0} failed")]

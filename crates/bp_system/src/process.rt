@@ -14,7 +14,7 @@ use std::{env, io};
 use thiserror::Error;
 
 /// Why a program can't begin.
-#[derive(Clone, Copy, Debug, PartialEq, Eq, Error)]
+#[derive(Clone, Copy, Debug, Error)]
 pub enum StartError {
     /// A standard stream may be closed, and nothing can stand for it.
     #[error("nothing stands for a closed standard stream")]

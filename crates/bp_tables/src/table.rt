@@ -8,7 +8,7 @@ use crate::Row;
 use std::marker::Model;
 
 /// A key with which bytes begin: how many bytes it has, and its value.
-#[derive(Clone, Copy, Debug, PartialEq, Eq)]
+#[derive(Clone, Copy)]
 pub struct Front<V> {
     pub size: usize,
     pub value: V,

@@ -44,7 +44,7 @@ impl Model for Event {
 }
 
 /// Why a name and data are no event.
-#[derive(Debug, Clone, Copy, PartialEq, Eq, Error)]
+#[derive(Debug, Clone, Copy, Error)]
 pub enum TooHeavy {
     /// The weight passes 1,024.
     #[error("the event weighs more than 1024")]

@@ -3,7 +3,7 @@ ghost use Rattle.std.specs.Prelude.{◌≡◌};
 ghost use Rattle.js_data.specs.Faults.{fault_name};
 
 /// What can go wrong while a script runs.
-#[derive(Debug, Clone, Copy, PartialEq, Eq)]
+#[derive(Debug, Clone, Copy)]
 pub enum Fault {
     /// A whole number outside of -(2^53-1) to 2^53-1.
     Whole,

@@ -11,7 +11,7 @@ use std::alloc::{AllocError, Global};
 use thiserror::Error;
 
 /// Why no event is answered.
-#[derive(Debug, Clone, Copy, PartialEq, Eq, Error)]
+#[derive(Debug, Clone, Copy, Error)]
 pub enum EventError {
     /// The bytes are not the text of an event within the limits.
     #[error("not the text of an event")]

@@ -54,7 +54,7 @@ pub struct Token {
 }
 
 /// Why bytes are not cut into tokens, with a byte's place.
-#[derive(Debug, Clone, Copy, PartialEq, Eq, Error)]
+#[derive(Debug, Clone, Copy, Error)]
 pub enum LexFault {
     /// A character that begins no token, or follows a number.
     #[error("a character that is no token, at byte {0}")]
@@ -80,7 +80,7 @@ pub enum LexFault {
 }
 
 /// Why no token stands in front, apart from its place.
-#[derive(Debug, Clone, Copy, PartialEq, Eq)]
+#[derive(Clone, Copy)]
 pub enum Flaw {
     /// A character that begins no token, or follows a number.
     Character,

@@ -8,7 +8,7 @@ use crate::mention::{Mention, NameFault, copy_of};
 use std::alloc::AllocError;
 
 /// A rule of names.
-#[derive(Clone, Copy, PartialEq, Eq)]
+#[derive(Clone, Copy)]
 pub(crate) enum Breach {
     Unknown,
     Twice,

@@ -2,7 +2,7 @@
 use thiserror::Error;
 
 /// Why no tree is made of tokens.
-#[derive(Clone, Copy, Debug, PartialEq, Eq, Error)]
+#[derive(Clone, Copy, Debug, Error)]
 pub enum ParseFault {
     /// A token that the language refuses; the line of the first.
     #[error("an unsupported token, on line {0}")]

@@ -4,7 +4,7 @@ ghost use Rattle.std.specs.List.{list_any};
 ghost use Rattle.js_program.specs.Builtins.{acting, builtin_of, builtins, form_number, form_row, has_effect_in, have_distinct_words, in_threads, is_met, met, modes_in_row, row_named, same_mode};
 
 /// A form of `bp` or `Math`.
-#[derive(Clone, Copy, Debug, PartialEq, Eq)]
+#[derive(Clone, Copy, Debug)]
 pub enum Builtin {
     /// `bp.registerBThread(name, function)`
     RegisterBThread,
@@ -31,7 +31,7 @@ pub enum Builtin {
 }
 
 /// What is running where a form is met.
-#[derive(Clone, Copy, PartialEq, Eq)]
+#[derive(Clone, Copy)]
 pub enum Mode {
     /// The top level.
     Top,
@@ -44,7 +44,7 @@ pub enum Mode {
 }
 
 /// The modes in which a form has its effect.
-#[derive(Clone, Copy, PartialEq, Eq)]
+#[derive(Clone, Copy)]
 pub enum Modes {
     /// Every mode.
     Everywhere,

@@ -6,7 +6,7 @@ use js_tree::{AssignOp, DeclareKind, Fix, Operator, Sign, Step};
 use std::sync::Arc;
 
 /// What a name that is read or declared stands for in its function. Names that are assigned or updated have slots.
-#[derive(Clone, Copy, Debug, PartialEq, Eq)]
+#[derive(Clone, Copy, Debug)]
 pub enum Variable {
     /// A slot of the function.
     Slot(u32),
@@ -117,7 +117,7 @@ impl Drop for NodeForm {
 }
 
 /// A statement or an expression: the line of its first token, and its form.
-#[derive(Debug, Drop)]
+#[derive(Drop)]
 pub struct Node {
     pub line: u32,
     pub form: NodeForm,
@@ -145,7 +145,7 @@ pub struct Body {
 }
 
 /// What a constant is before the program runs.
-#[derive(Clone, Copy, Debug, PartialEq, Eq)]
+#[derive(Clone, Copy, Debug)]
 pub enum ConstantStart {
     /// The function of this number.
     OfFunction(u32),

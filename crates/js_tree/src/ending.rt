@@ -1,7 +1,7 @@
 //! How a statement's last part ends, which decides what may follow on the next line.
 
 /// What an expression, or a statement without one, ends in.
-#[derive(Clone, Copy, PartialEq, Eq)]
+#[derive(Clone, Copy)]
 pub enum Ending {
     /// A value that `(`, `[`, `+` or `-` go on with.
     Value,

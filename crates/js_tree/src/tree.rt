@@ -4,7 +4,7 @@
 use js_data::{Text, Whole};
 
 /// A place in the text: the number of bytes before it, and its line, from 1.
-#[derive(Clone, Copy, Debug, PartialEq, Eq)]
+#[derive(Clone, Copy, Debug)]
 pub struct Spot {
     pub at: u32,
     pub line: u32,
@@ -18,7 +18,7 @@ pub struct Name {
 }
 
 /// A unary operator.
-#[derive(Clone, Copy, Debug, PartialEq, Eq)]
+#[derive(Clone, Copy, Debug)]
 pub enum Sign {
     /// `!`
     Not,
@@ -29,7 +29,7 @@ pub enum Sign {
 }
 
 /// What an update does to its name.
-#[derive(Clone, Copy, Debug, PartialEq, Eq)]
+#[derive(Clone, Copy, Debug)]
 pub enum Step {
     /// `++`
     Increment,
@@ -38,7 +38,7 @@ pub enum Step {
 }
 
 /// On which side of its name an update stands, and so which value it has.
-#[derive(Clone, Copy, Debug, PartialEq, Eq)]
+#[derive(Clone, Copy, Debug)]
 pub enum Fix {
     /// `++name`, the value after the update.
     Before,
@@ -47,7 +47,7 @@ pub enum Fix {
 }
 
 /// A binary operator.
-#[derive(Clone, Copy, Debug, PartialEq, Eq)]
+#[derive(Clone, Copy, Debug)]
 pub enum Operator {
     /// `||`
     Or,
@@ -82,7 +82,7 @@ pub enum Operator {
 }
 
 /// An assignment's operator.
-#[derive(Clone, Copy, Debug, PartialEq, Eq)]
+#[derive(Clone, Copy, Debug)]
 pub enum AssignOp {
     /// `=`
     Set,
@@ -99,7 +99,7 @@ pub enum AssignOp {
 }
 
 /// The word of a declaration.
-#[derive(Clone, Copy, Debug, PartialEq, Eq)]
+#[derive(Clone, Copy, Debug)]
 pub enum DeclareKind {
     Const,
     Let,

@@ -15,7 +15,7 @@ fn a_failed_read_is_told(rt: HostRuntime) -> Result<(), Fail> {
     let Err(refused) = Reader::open(alloc, source) else {
         return Err(Fail::from("opened"));
     };
-    assert!(rt; refused.fault == LogFault::Read);
+    assert!(rt; matches!(&refused.fault, LogFault::Read));
     assert!(rt; refused.source.faults() == 1);
     Ok(())
 }
@@ -34,7 +34,7 @@ fn a_refusal_stays(rt: HostRuntime) -> Result<(), Fail> {
         let Err(fault) = reader.next(alloc) else {
             return Err(Fail::from("read"));
         };
-        assert!(rt; fault == LogFault::Read);
+        assert!(rt; matches!(&fault, LogFault::Read));
     }
     assert!(rt; reader.back().faults() == 1);
     Ok(())

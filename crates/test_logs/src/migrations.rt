@@ -22,7 +22,7 @@ fn a_failed_read_comes_behind_what_was_read(rt: HostRuntime) -> Result<(), Fail>
     let source = MemorySource::new(log.to_vec(alloc)?, [2].to_vec(alloc)?);
     let mut sink = MemorySink::new(alloc, 100_000, Vec::new(alloc))?;
     let migrated = migrate(alloc, source, &mut sink);
-    assert!(rt; migrated.ended == Err(MigrateFault::Log(LogFault::Read)));
+    assert!(rt; matches!(&migrated.ended, Err(MigrateFault::Log(LogFault::Read))));
     assert!(rt; migrated.log.faults() == 1);
     let written = sink.written();
     assert!(rt; written.len() > 4_000 && written.len() <= 4_096);
@@ -38,7 +38,7 @@ fn a_failed_write_leaves_a_front(rt: HostRuntime) -> Result<(), Fail> {
     let source = MemorySource::new(log.to_vec(alloc)?, Vec::new(alloc));
     let mut sink = MemorySink::new(alloc, 100_000, [2].to_vec(alloc)?)?;
     let migrated = migrate(alloc, source, &mut sink);
-    assert!(rt; migrated.ended == Err(MigrateFault::Write));
+    assert!(rt; matches!(&migrated.ended, Err(MigrateFault::Write)));
     assert!(rt; sink.faults() == 1);
     let written = sink.written();
     assert!(rt; written.len() > 65_000 && log.starts_with(written));

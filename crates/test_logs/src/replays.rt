@@ -28,7 +28,7 @@ fn a_failed_read_is_told(rt: HostRuntime) -> Result<(), Fail> {
     let Err(ReplayFault::Log(fault)) = &replayed.ended else {
         return Err(Fail::from("read"));
     };
-    assert!(rt; *fault == LogFault::Read);
+    assert!(rt; matches!(fault, LogFault::Read));
     assert!(rt; replayed.log.faults() == 1);
     assert!(rt; sink.written() == PRINTED);
     Ok(())

@@ -1,6 +1,12 @@
 //! Constant tables.
-use bp_tables::{Front, Table, rows};
+use bp_tables::{Table, rows};
 use std::test::Fail;
+
+/// The size and the value of the key with which the bytes begin.
+fn front<const N: usize>(table: &Table<u8, N>, bytes: &[u8]) -> Option<(usize, u8)> {
+    let found = table.find_front(bytes)?;
+    Some((found.size, found.value))
+}
 
 #[test]
 fn the_first_row_is_found(rt: HostRuntime) -> Result<(), Fail> {
@@ -9,8 +15,8 @@ fn the_first_row_is_found(rt: HostRuntime) -> Result<(), Fail> {
     assert_eq!(rt; table.find(b"a"), Some(8));
     assert_eq!(rt; table.find(b"abc"), None);
     assert_eq!(rt; table.find(b""), None);
-    assert_eq!(rt; table.find_front(b"abc"), Some(Front { size: 2, value: 7 }));
-    assert_eq!(rt; table.find_front(b"acb"), Some(Front { size: 1, value: 8 }));
-    assert_eq!(rt; table.find_front(b"ba"), None);
+    assert_eq!(rt; front(&table, b"abc"), Some((2, 7)));
+    assert_eq!(rt; front(&table, b"acb"), Some((1, 8)));
+    assert_eq!(rt; front(&table, b"ba"), None);
     Ok(())
 }
