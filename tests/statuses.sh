@@ -1,5 +1,6 @@
 #!/bin/sh
-# Each status and each note of both programs, by the built programs, but for 10, out of memory, which refuse.sh tries: one row each.
+# Each status and each note of both programs, by the built programs: one row each. Out of memory comes by a limit on it; refuse.sh tries
+# the same at each allocation of a run.
 #
 #     sh tests/statuses.sh             takes some seconds
 #
@@ -81,6 +82,14 @@ log front.log 2 quiet.js 0 'sel ["e"]'
 echo 'log' > version.log
 printf '%s\n' 'bp-log 2' 'strategy none' > header.log
 
+# A script, and its log, that a program of 12,000 KiB cannot hold.
+{
+    echo 'const l = ['
+    awk 'BEGIN { for (i = 0; i < 60000; i++) printf "%d,", i; print "0]" }'
+    cat quiet.js
+} > big.js
+log big.log 2 big.js 0 'sel ["e"]' 'end quiet 1'
+
 # ---- the rows
 
 # Each row is `COMMAND ==> STATUS NOTE ==> PRINTED`: of what is printed each LF is \n, and @NAME is what that file holds.
@@ -125,6 +134,10 @@ bp accept quiet.js > /dev/full ==> 9 write fault ==>
 bp replay quiet.log > /dev/full ==> 9 write fault ==>
 bp migrate first.log > /dev/full ==> 9 write fault ==>
 bp large 1 > /dev/full ==> 9 write fault ==>
+ulimit -v 12000; bp run big.js ==> 10 ==>
+ulimit -v 12000; bp accept big.js ==> 10 ==>
+ulimit -v 12000; bp replay big.log ==> 10 ==>
+ulimit -v 12000; bp large 4000 ==> 10 ==>
 bp replay version.log ==> 11 bad log: version ==>
 bp replay header.log ==> 11 bad log: header ==>
 bp replay line.log ==> 11 bad log: line 2 ==> event ["e"]\ndone "A"\n
@@ -157,6 +170,10 @@ bpx check found.js > /dev/full ==> 9 write fault ==>
 bpx state quiet.log > /dev/full ==> 9 write fault ==>
 bpx why quiet.log 1 > /dev/full ==> 9 write fault ==>
 bpx seeds quiet.js 0 1 > /dev/full ==> 9 write fault ==>
+ulimit -v 12000; bpx check big.js ==> 10 ==>
+ulimit -v 12000; bpx state big.log ==> 10 ==>
+ulimit -v 12000; bpx why big.log 1 ==> 10 ==>
+ulimit -v 12000; bpx seeds big.js 0 1 ==> 10 ==>
 bpx state version.log ==> 11 bad log: version ==>
 bpx state header.log ==> 11 bad log: header ==>
 bpx state line.log ==> 11 bad log: line 2 ==>
@@ -169,6 +186,7 @@ bpx why line.log 1 ==> 11 bad log: line 2 ==>
 bpx why other.log '["e"]' ==> 11 bad log: record 1 expected sel ["e"] found sel ["f"] ==>
 bpx ==> 12 usage: bpx check PROGRAM | bpx state LOG [N] | bpx why LOG N | bpx why LOG EVENT | bpx seeds PROGRAM FROM TO [OPTIONS] | bpx --help ==>
 bpx run quiet.js ==> 12 usage: bpx check PROGRAM | bpx state LOG [N] | bpx why LOG N | bpx why LOG EVENT | bpx seeds PROGRAM FROM TO [OPTIONS] | bpx --help ==>
+bpx check big.js ==> 0 ==>
 bpx state quiet.log 3 ==> 13 no such record or selection ==>
 bpx why quiet.log 2 ==> 13 no such record or selection ==>
 END
