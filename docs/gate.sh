@@ -1,6 +1,6 @@
 #!/bin/sh
-# Measures what a command of the toolchain takes, crate by crate, and ends with the table of docs/GATE.md: processor seconds, user
-# and system, of proofs, of tests and of edits, with the commit and the date.
+# Measures what a command of the toolchain takes, crate by crate, and ends with the table of docs/GATE.md, a row for each group of
+# crates.txt: processor seconds, user and system, of proofs and, behind a +, of tests and of edits; with the commit and the date.
 #     sh docs/gate.sh              the whole gate (`rt ci`); what it prints goes to standard error
 #     sh docs/gate.sh rt ci NAME   another command
 #     SEEN=FOLDER sh docs/gate.sh  keeps what it saw in that folder, and a later run with the same folder adds to it: the table of a
@@ -62,6 +62,11 @@ status=$?
 echo "Of commit $(git -C "$top" rev-parse --short=12 HEAD), $(date '+%-d %B %Y'), on $(nproc) processors: \`$*\` ended with $status."
 echo
 awk -v hertz="$(getconf CLK_TCK)" -v list="$top/crates.txt" '
+    function sum(proof, beside) { return sprintf("%.0f", proof) (beside >= 0.5 ? sprintf(" + %.0f", beside) : "") }
+    function row() {
+        if (own + beside > 0) print "| " group " | " sum(own, beside) " |" (large == "" ? "" : " " large) " |"
+        own = 0; beside = 0; large = ""
+    }
     FILENAME ~ /names$/ { work[$1] = $2 " " $3; next }
     { parent[$1] = $2; if ($3 > ticks[$1]) ticks[$1] = $3 }
     END {
@@ -70,16 +75,18 @@ awk -v hertz="$(getconf CLK_TCK)" -v list="$top/crates.txt" '
             for (turns = 0; turns < 50 && !(at in work) && at in parent; turns++) at = parent[at]
             if (at in work) took[work[at]] += ticks[one]; else rest += ticks[one]
         }
-        print "| Crate | Proof | Tests | Edits |"; print "|---|---|---|---|"
+        print "| Crates | All | Those of 300 and more |"; print "|---|---|---|"
         while ((getline line < list) > 0) {
+            if (sub(/^# ---- /, "", line)) { row(); group = line; continue }
             if (line !~ /^[a-z]/) continue
             split(line, head, /[ :]/); crate = head[1]
             proof = took[crate " proof"] / hertz; tests = took[crate " tests"] / hertz; edits = took[crate " edits"] / hertz
-            if (proof + tests + edits == 0) continue
-            printf "| `%s` | %.0f | %.0f | %.0f |\n", crate, proof, tests, edits
-            proofs += proof; all_tests += tests; all_edits += edits
+            own += proof; beside += tests + edits; proofs += proof; all_tests += tests; all_edits += edits
+            if (proof + tests + edits >= 300) large = large (large == "" ? "" : ", ") "`" crate "` " sum(proof, tests + edits)
         }
-        printf "| all | %.0f | %.0f | %.0f |\n\nBeside them `rt` itself, compilers and programs: %.0f seconds.\n", proofs, all_tests, all_edits, rest / hertz
+        row()
+        printf "\nAll proofs %.0f seconds, tests %.0f, edits %.0f: %.0f, %.0f and %.0f, together %.0f processor minutes.\n", proofs, all_tests, all_edits, proofs / 60, all_tests / 60, all_edits / 60, (proofs + all_tests + all_edits) / 60
+        printf "Beside them `rt` itself, compilers and programs: %.0f seconds.\n", rest / hertz
     }' "$seen/names" "$seen/looks"
 echo
 echo "Processor time of this shell and of its commands, by \`times\`:"
