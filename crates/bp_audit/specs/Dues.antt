@@ -1,11 +1,13 @@
 -- What may come, as code finds it.
-use Rattle.std.specs.Prelude.{◌≡◌, List, [], Some, slice_get}
-use Rattle.std.specs.List.{All}
-use Rattle.js_data.specs.Event.{PlainEvent, IsEvent}
+use Rattle.std.specs.Prelude.{◌≡◌, ◌⊎◌, ℕ, List, [], ◌∷◌, Option, Some, None, slice_get, if◌then◌else◌}
+use Rattle.std.specs.List.{list_any}
+use Rattle.js_data.specs.Event.{PlainEvent, same_event}
 use Rattle.bp_run.specs.Selecting.{Enabled}
 use Rattle.bp_floor.specs.Floors.{PlainFloor, code_on}
 use Rattle.bp_free.specs.Due as free
-use Rattle.bp_audit.specs.declared.resting.Queued.{Queued}
+use Rattle.bp_free.specs.Free.{place_in}
+use Rattle.bp_free.specs.Nexts.{AreReal}
+use Rattle.bp_audit.specs.declared.resting.Offer.{Offer}
 use Rattle.bp_audit.specs.declared.resting.Due.{Due}
 use Rattle.bp_audit.specs.declared.resting.Due.TheVariants as due
 
@@ -13,22 +15,39 @@ use Rattle.bp_audit.specs.declared.resting.Due.TheVariants as due
 abbrev pub due_on : PlainFloor → free.Due
 due_on f = free.due (code_on f) f.options f.pair.stand
 
--- the events that are requested and that nobody blocks
-pub record AreRequested (x : Enabled) (events : List PlainEvent) : Type 0 where
-  pub are : x.inner ≡ events
-  pub some : events ≡ [] → ⊥
-  pub real : All IsEvent events
+-- the requested events that can be selected
+pub record IsOfRequests (x : Enabled) (offer : Offer) : Type 0 where
+  pub events : offer.events.items ≡ x.inner
+  pub place : offer.place ≡ None
+  pub some : x.inner ≡ [] → x.outer ≡ None
 
--- the first of the queue that can be selected, where none is requested and not blocked
-pub record IsQueued (x : Enabled) (queue : List PlainEvent) (q : Queued) : Type 0 where
+-- the one event of the queue that can be selected
+pub record IsOfQueue (x : Enabled) (queue : List PlainEvent) (offer : Offer) : Type 0 where
+  pub event : PlainEvent
+  pub index : ℕ
+  pub events : offer.events.items ≡ event ∷ []
+  pub place : offer.place ≡ Some index
   pub none : x.inner ≡ []
-  pub first : x.outer ≡ Some q.place
-  pub there : slice_get queue q.place ≡ Some q.event
-  pub real : IsEvent q.event
+  pub first : x.outer ≡ Some index
+  pub there : slice_get queue index ≡ Some event
+
+abbrev pub IsOfferOf : Enabled → List PlainEvent → Offer → Type 0
+IsOfferOf x queue offer = IsOfRequests x offer ⊎ IsOfQueue x queue offer
+
+-- the events that can be selected, all from the place of the offer
+pub record IsOffer (x : Enabled) (queue : List PlainEvent) (offer : Offer) : Type 0 where
+  pub placed : (e : PlainEvent) → place_in x queue e
+      ≡ (if list_any (same_event e) offer.events.items then Some offer.place else None)
+  pub real : AreReal x queue
 
 abbrev pub DueAs : free.Due → List PlainEvent → Due → Type 0
 DueAs (free.Ends v) queue (due.Ends w) = v ≡ w
 DueAs (free.Idles v) queue (due.Idles w) = v ≡ w
-DueAs (free.Goes x) queue (due.Requested es) = AreRequested x es.items
-DueAs (free.Goes x) queue (due.Queued q) = IsQueued x queue q
+DueAs (free.Goes x) queue (due.Goes offer) = IsOffer x queue offer
 DueAs _ _ _ = ⊥
+
+-- what may come on the floor are the events of the offer
+pub record Offers (f : PlainFloor) (offer : Offer) : Type 0 where
+  pub enabled : Enabled
+  pub goes : due_on f ≡ free.Goes enabled
+  pub is : IsOffer enabled f.pair.stand.queue offer

@@ -1,8 +1,8 @@
 -- The next line of a trace, as code finds it.
-use Rattle.std.specs.Prelude.{◌≡◌, ℕ, List, Option, Some, None, Ok}
-use Rattle.js_data.specs.Event.{PlainEvent}
+use Rattle.std.specs.Prelude.{◌≡◌, ℕ, true, List, Option, Some, None, Ok}
+use Rattle.std.specs.List.{list_any}
+use Rattle.js_data.specs.Event.{PlainEvent, same_event}
 use Rattle.js_meaning.specs.Bodies.{Origin}
-use Rattle.bp_log.specs.Texts.{line_text}
 use Rattle.bp_log.specs.declared.trace.Line.{Line}
 use Rattle.bp_log.specs.declared.trace.Line.TheVariants as trace
 use Rattle.bp_log.specs.declared.verdict.Verdict.{Verdict}
@@ -12,7 +12,8 @@ use Rattle.bp_run.specs.Choosing.{Touched, reach}
 use Rattle.bp_run.specs.Story.{line_of_choice, stepped}
 use Rattle.bp_floor.specs.Floors.{PlainFloor, code_on, stop_of}
 use Rattle.bp_free.specs.Free.{IsFreeEnd}
-use Rattle.bp_free.specs.Nexts.{MayCome, MayBeNext}
+use Rattle.bp_free.specs.Nexts.{AreReal, MayCome, MayBeNext}
+use Rattle.bp_audit.specs.declared.resting.Offer.{Offer}
 use Rattle.bp_audit.specs.declared.stepping.Step.{Step}
 use Rattle.bp_audit.specs.declared.stepping.Step.TheVariants.{Moved, Ended, Wrong}
 use Rattle.bp_audit.specs.Lines.{Begins, IsNot}
@@ -36,13 +37,12 @@ WentAs f e place rest (Moved left) g = GoesOn f e place g × (rest ≡ left.now)
 WentAs f e place rest (Ended left) g = ⊥
 WentAs f e place rest Wrong g = (v : Verdict) × (stop_of f e ≡ Some v) × (g ≡ f)
 
--- the next line is that of an event that may come, and of no other, and the floor went on with it
+-- the next line is that of an event that may come, and the floor went on with it
 pub record MovesAs (f : PlainFloor) (bytes rest : List ℕ) (g : PlainFloor) : Type 0 where
   pub event : PlainEvent
   pub place : Option ℕ
   pub comes : MayCome (code_on f) f.options f.pair.stand event place
-  pub apart : (e : PlainEvent) (q : Option ℕ) → MayCome (code_on f) f.options f.pair.stand e q →
-      line_text (line_of_choice e q) ≡ line_text (line_of_choice event place) → e ≡ event
+  pub real : AreReal comes.enabled f.pair.stand.queue
   pub line : Begins bytes (line_of_choice event place) rest
   pub goes : GoesOn f event place g
 
@@ -61,13 +61,34 @@ StepAs f bytes (Moved rest) g = MovesAs f bytes rest.now g
 StepAs f bytes (Ended rest) g = EndsAs f bytes rest.now × (g ≡ f)
 StepAs f bytes Wrong g = IsWrong f bytes × (g ≡ f)
 
+-- the next line is that of this verdict, or it is not
+abbrev pub VerdictAs : Verdict → List ℕ → Step → Type 0
+VerdictAs v bytes (Moved rest) = ⊥
+VerdictAs v bytes (Ended rest) = Begins bytes (trace.Verdict v) rest.now
+VerdictAs v bytes Wrong = IsNot (trace.Verdict v) bytes
+
 -- the event stops the run with a verdict whose line is there
 pub record StopsThere (f : PlainFloor) (e : PlainEvent) (bytes rest : List ℕ) : Type 0 where
   pub verdict : Verdict
   pub stops : stop_of f e ≡ Some verdict
   pub line : Begins bytes (trace.Verdict verdict) rest
 
--- it does, and this is behind the line, or it does not
+-- whatever verdict it stops the run with, its line is not there
+abbrev pub StopsNot : PlainFloor → PlainEvent → List ℕ → Type 0
+StopsNot f e bytes = (v : Verdict) → stop_of f e ≡ Some v → IsNot (trace.Verdict v) bytes
+
 abbrev pub StopsWith : PlainFloor → PlainEvent → List ℕ → Option (List ℕ) → Type 0
 StopsWith f e bytes (Some rest) = StopsThere f e bytes rest
-StopsWith f e bytes None = (v : Verdict) → stop_of f e ≡ Some v → IsNot (trace.Verdict v) bytes
+StopsWith f e bytes None = StopsNot f e bytes
+
+-- one of the events of the offer stops the run so
+pub record OneStops (f : PlainFloor) (events : List PlainEvent) (bytes rest : List ℕ) : Type 0 where
+  pub event : PlainEvent
+  pub among : list_any (same_event event) events ≡ true
+  pub stops : StopsThere f event bytes rest
+
+abbrev pub StopStep : PlainFloor → Offer → List ℕ → Step → Type 0
+StopStep f offer bytes (Moved rest) = ⊥
+StopStep f offer bytes (Ended rest) = OneStops f offer.events.items bytes rest.now
+StopStep f offer bytes Wrong =
+    (e : PlainEvent) → list_any (same_event e) offer.events.items ≡ true → StopsNot f e bytes

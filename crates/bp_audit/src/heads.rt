@@ -1,7 +1,7 @@
 //! What the next line of a trace says.
-ghost use Rattle.std.specs.Prelude.{◌≡◌, IfOk};
+ghost use Rattle.std.specs.Prelude.{◌≡◌, IfOk, option_map};
 ghost use Rattle.bp_free.specs.Reasons.{line_in, event_behind};
-ghost use Rattle.bp_audit.specs.Heads.{HeadAs};
+ghost use Rattle.bp_audit.specs.Heads.{HeadAs, heard_from};
 
 use crate::lines::{Front, behind_word, front_of};
 use bp_log::Memory;
@@ -22,6 +22,19 @@ pub(crate) enum Head<'a> {
     External(Event, &'a [u8]),
     /// Something else.
     Other,
+}
+
+impl<'a> Head<'a> {
+    /// The event of the line, if it is one that comes from such a place, and what is behind the line.
+    pub(crate) fn event_from(&self, place: Option<u32>) -> Option<(&Event, &'a [u8])>
+        ensures { option_map (λ p. (p.0.now, p.1.now)) result ≡ heard_from self.now place }
+    {
+        match self {
+            Head::Event(event, rest) if place.is_none() => Some((event, *rest)),
+            Head::External(event, rest) if place.is_some() => Some((event, *rest)),
+            _ => None,
+        }
+    }
 }
 
 /// The event whose compact text stands behind this word.

@@ -1,5 +1,8 @@
 //! Why a line of a trace may not come where a floor rests.
-ghost use Rattle.std.specs.Prelude.{◌≡◌, [], true, false, IfOk};
+ghost use Rattle.std.specs.Prelude.{◌≡◌, List, [], true, false, IfOk};
+ghost use Rattle.js_data.specs.Event.{PlainEvent};
+ghost use Rattle.js_meaning.specs.Bodies.{Origin};
+ghost use Rattle.bp_run.specs.Configuration.{Stand};
 ghost use Rattle.bp_floor.specs.declared.phase.Phase.TheVariants as phase;
 ghost use Rattle.bp_floor.specs.Floors.{code_on, is_idle};
 ghost use Rattle.bp_reading.specs.Heads as heads;
@@ -19,11 +22,12 @@ use std::alloc::{AllocError, Global};
 
 /// Of any other line: the one verdict that may come, or nothing that could be named.
 fn verdict_or_none(due: Due) -> Reason
-    ensures { (d : free.Due) (queue : _) → DueAs d queue due → result ≡ or_verdict d }
+    ensures { (d : free.Due) (queue : List PlainEvent) → DueAs d queue due →
+        result ≡ or_verdict d }
 {
     match due {
         Due::Ends(verdict) | Due::Idles(verdict) => Reason::Expected(Line::Verdict(verdict)),
-        Due::Requested(_) | Due::Queued(_) => Reason::NotHere,
+        Due::Goes(_) => Reason::NotHere,
     }
 }
 
@@ -60,8 +64,14 @@ fn reason_of_external(due: Due, event: Event) -> Reason
 {
     match due {
         Due::Ends(verdict) => Reason::Expected(Line::Verdict(verdict)),
-        Due::Queued(first) if event.same(&first.event) => Reason::NotHere,
-        Due::Queued(_) | Due::Requested(_) | Due::Idles(_) => Reason::NotFirst(event),
+        Due::Idles(_) => Reason::NotFirst(event),
+        Due::Goes(offer) => {
+            if offer.place.is_some() && offer.has(&event) {
+                Reason::NotHere
+            } else {
+                Reason::NotFirst(event)
+            }
+        }
     }
 }
 

@@ -1,10 +1,12 @@
 //! What may come where a floor rests.
-ghost use Rattle.std.specs.Prelude.{◌≡◌, ◌<◌, true, false, Some, IfOk, IfSome, length};
-ghost use Rattle.std.specs.List.{All};
-ghost use Rattle.js_data.specs.Event.{IsEvent};
-ghost use Rattle.bp_floor.specs.Floors.{is_idle};
+ghost use Rattle.std.specs.Prelude.{◌≡◌, ◌<◌, true, false, Ok, IfOk, IfSome, length};
+ghost use Rattle.std.specs.List.{All, list_any};
+ghost use Rattle.js_data.specs.Event.{IsEvent, same_event};
+ghost use Rattle.bp_run.specs.Selecting.{selectable};
+ghost use Rattle.bp_select.specs.Answers.{enabled_of};
+ghost use Rattle.bp_floor.specs.Floors.{has_on, live_on, is_idle};
 ghost use Rattle.bp_free.specs.Due.{due_among, idle_verdict};
-ghost use Rattle.bp_audit.specs.Dues.{DueAs, due_on};
+ghost use Rattle.bp_audit.specs.Dues.{DueAs, IsOfferOf, due_on};
 
 use bp_floor::Floor;
 use bp_log::limits::MOST_WAITING;
@@ -13,11 +15,27 @@ use bp_select::{Enabled, SelectFault};
 use js_data::Event;
 use std::alloc::{AllocError, Global};
 
-/// The first event of the queue that can be selected, and its place.
+/// Events that may come, all from the same place.
 #[derive(Drop)]
-pub(crate) struct Queued {
-    pub event: Event,
-    pub place: u32,
+pub(crate) struct Offer {
+    /// One of these, or the verdict with which one of them stops the run.
+    pub events: Vec<Event>,
+    /// Their place in the queue; none where b-threads request them.
+    pub place: Option<u32>,
+}
+
+impl Offer {
+    /// Whether the event is one of these.
+    pub(crate) fn has(&self, event: &Event) -> bool
+        ensures { result ≡ list_any (same_event event.now) self.now.events.items }
+    {
+        for other in &self.events {
+            if event.same(other) {
+                return true;
+            }
+        }
+        false
+    }
 }
 
 /// What may come.
@@ -25,10 +43,8 @@ pub(crate) struct Queued {
 pub(crate) enum Due {
     /// This verdict alone.
     Ends(Verdict),
-    /// One of these events, which b-threads request, or the verdict with which one stops the run.
-    Requested(Vec<Event>),
-    /// This event of the queue, or the verdict with which it stops the run.
-    Queued(Queued),
+    /// An event.
+    Goes(Offer),
     /// As nothing can be selected, this verdict.
     Idles(Verdict),
 }
@@ -53,9 +69,32 @@ fn verdict_when_idle(floor: &Floor) -> Verdict
     }
 }
 
-/// What may come where this can be selected.
-fn among(floor: &Floor, enabled: Enabled) -> Result<Due, Memory>
+/// The events that may come where this can be selected: all that are requested, or else the one of
+/// the queue.
+fn offer_of(alloc: Global, floor: &Floor, enabled: Enabled) -> Result<Offer, Memory>
     requires within { IfSome enabled.outer (λ i. i < length floor.now.pair.stand.queue) }
+    ensures { IfOk result (IsOfferOf (enabled_of enabled) floor.now.pair.stand.queue) }
+{
+    match enabled.outer {
+        Some(place) if enabled.inner.is_empty() => {
+            let mut events = Vec::new(alloc);
+            events.push(floor.queue()[place as usize].copy()?)?;
+            Ok(Offer {
+                events,
+                place: Some(place),
+            })
+        }
+        _ => Ok(Offer {
+            events: enabled.inner,
+            place: None,
+        }),
+    }
+}
+
+/// What may come where this can be selected.
+fn among(alloc: Global, floor: &Floor, enabled: Enabled) -> Result<Due, Memory>
+    requires enabled { selectable (has_on floor.now) (live_on floor.now) floor.now.pair.stand.queue
+        ≡ Ok (enabled_of enabled) }
     ensures { IfOk result (DueAs (due_among floor.now.options floor.now.pair.stand
         enabled.inner.items enabled.outer) floor.now.pair.stand.queue) }
 {
@@ -66,17 +105,9 @@ fn among(floor: &Floor, enabled: Enabled) -> Result<Due, Memory>
     if floor.transitions() == steps {
         return Ok(Due::Ends(Verdict::Steps(steps)));
     }
-    match enabled.outer {
-        Some(place) if enabled.inner.is_empty() => {
-            let event = floor.queue()[place as usize].copy()?;
-            event.keeps();
-            Ok(Due::Queued(Queued { event, place }))
-        }
-        _ => {
-            are_events(enabled.inner.as_slice());
-            Ok(Due::Requested(enabled.inner))
-        }
-    }
+    let offer = offer_of(alloc, floor, enabled)?;
+    are_events(offer.events.as_slice());
+    Ok(Due::Goes(offer))
 }
 
 /// What may come.
@@ -94,6 +125,6 @@ pub(crate) fn look(alloc: Global, floor: &mut Floor) -> Result<Due, Memory>
     match floor.enabled(alloc) {
         Err(SelectFault::Set(number, fault)) => Ok(Due::Ends(floor.fault_verdict(number, fault)?)),
         Err(SelectFault::Memory) => Err(AllocError),
-        Ok(enabled) => among(floor, enabled),
+        Ok(enabled) => among(alloc, floor, enabled),
     }
 }

@@ -1,20 +1,18 @@
 //! The next line of a trace, where a floor rests.
 ghost use Rattle.std.specs.Prelude.{◌≡◌, true, false, IfOk, option_map};
-ghost use Rattle.std.specs.List.{list_any};
-ghost use Rattle.js_data.specs.Event.{same_event};
 ghost use Rattle.bp_log.specs.Texts.{whole_line};
 ghost use Rattle.bp_log.specs.declared.trace.Line.TheVariants as trace;
 ghost use Rattle.bp_reading.specs.Words.{behind};
 ghost use Rattle.bp_free.specs.Reasons.{line_in};
 ghost use Rattle.bp_floor.specs.declared.phase.Phase.TheVariants as phase;
 ghost use Rattle.bp_floor.specs.Floors.{CanGo, is_idle};
-ghost use Rattle.bp_audit.specs.Dues.{DueAs, due_on};
+ghost use Rattle.bp_audit.specs.Dues.{DueAs, Offers, due_on};
 ghost use Rattle.bp_audit.specs.Heads.{HeadAs};
-ghost use Rattle.bp_audit.specs.Steps.{StepAs, WentAs, StopsWith};
+ghost use Rattle.bp_audit.specs.Steps.{StepAs, StopStep, StopsWith, VerdictAs, WentAs};
 
 use crate::heads::Head;
 use crate::lines::behind_word;
-use crate::resting::{Due, Queued};
+use crate::resting::{Due, Offer};
 use bp_floor::{Floor, Went};
 use bp_log::{Line, Memory, Verdict, whole_line_of};
 use js_data::Event;
@@ -29,18 +27,6 @@ pub(crate) enum Step<'a> {
     Ended(&'a [u8]),
     /// None that may come.
     Wrong,
-}
-
-/// Whether the event is one of these.
-fn is_among(events: &[Event], event: &Event) -> bool
-    ensures { result ≡ list_any (same_event event.now) events.now }
-{
-    for other in events {
-        if event.same(other) {
-            return true;
-        }
-    }
-    false
 }
 
 /// What is behind the line of this verdict, if it stands there.
@@ -94,6 +80,7 @@ fn go<'a>(
 
 /// Where only this verdict may come.
 fn at_end<'a>(alloc: Global, verdict: &Verdict, bytes: &'a [u8]) -> Result<Step<'a>, Memory>
+    ensures { IfOk result (VerdictAs verdict.now bytes.now) }
 {
     match behind_verdict(alloc, verdict.copy()?, bytes)? {
         Some(rest) => Ok(Step::Ended(rest)),
@@ -101,47 +88,44 @@ fn at_end<'a>(alloc: Global, verdict: &Verdict, bytes: &'a [u8]) -> Result<Step<
     }
 }
 
-/// Where one of these requested events may come.
-fn by_request<'a>(
+/// Where no line of an event stands: that of a verdict with which one of these stops the run.
+fn at_stop<'a>(
     alloc: Global,
     floor: &mut Floor,
-    events: &[Event],
-    head: &Head<'a>,
+    offer: &Offer,
     bytes: &'a [u8],
 ) -> Result<Step<'a>, Memory>
+    requires rest { floor.old.phase ≡ phase.Rest }
+    requires offers { Offers floor.old offer.now }
+    ensures stops { IfOk result (StopStep floor.old offer.now bytes.now) }
+    ensures same { floor.new ≡ floor.old }
 {
-    if let Head::Event(event, rest) = head {
-        if !is_among(events, event) {
-            return Ok(Step::Wrong);
-        }
-        return go(alloc, floor, event, None, rest);
-    }
-    for event in events {
-        if let Some(rest) = behind_stop(alloc, floor, event, None, bytes)? {
+    for event in &offer.events {
+        if let Some(rest) = behind_stop(alloc, floor, event, offer.place, bytes)? {
             return Ok(Step::Ended(rest));
         }
     }
     Ok(Step::Wrong)
 }
 
-/// Where this event of the queue may come.
-fn by_queue<'a>(
+/// Where one of these events may come.
+fn when_open<'a>(
     alloc: Global,
     floor: &mut Floor,
-    first: &Queued,
+    offer: &Offer,
     head: &Head<'a>,
     bytes: &'a [u8],
 ) -> Result<Step<'a>, Memory>
+    requires rest { floor.old.phase ≡ phase.Rest }
+    requires whole { floor.old.broken ≡ false }
+    requires offers { Offers floor.old offer.now }
+    requires head { HeadAs (line_in bytes.now) head.now }
+    ensures { IfOk result (λ x. StepAs floor.old bytes.now x floor.new) }
 {
-    if let Head::External(event, rest) = head {
-        if !event.same(&first.event) {
-            return Ok(Step::Wrong);
-        }
-        return go(alloc, floor, event, Some(first.place), rest);
-    }
-    match behind_stop(alloc, floor, &first.event, Some(first.place), bytes)? {
-        Some(rest) => Ok(Step::Ended(rest)),
-        None => Ok(Step::Wrong),
+    match head.event_from(offer.place) {
+        None => at_stop(alloc, floor, offer, bytes),
+        Some((event, rest)) if offer.has(event) => go(alloc, floor, event, offer.place, rest),
+        Some(_) => Ok(Step::Wrong),
     }
 }
 
@@ -163,7 +147,6 @@ pub(crate) fn take_step<'a>(
     floor.keeps();
     match due {
         Due::Ends(verdict) | Due::Idles(verdict) => at_end(alloc, verdict, bytes),
-        Due::Requested(events) => by_request(alloc, floor, events.as_slice(), head, bytes),
-        Due::Queued(first) => by_queue(alloc, floor, first, head, bytes),
+        Due::Goes(offer) => when_open(alloc, floor, offer, head, bytes),
     }
 }

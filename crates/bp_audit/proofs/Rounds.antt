@@ -1,0 +1,2 @@
+-- How far a trace was read.
+use Rattle.std.proofs.Common.{◌≡◌, ℕ}
