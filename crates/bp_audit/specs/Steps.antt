@@ -1,5 +1,5 @@
 -- The next line of a trace, as code finds it.
-use Rattle.std.specs.Prelude.{◌≡◌, ℕ, true, List, Option, Some, None, Ok}
+use Rattle.std.specs.Prelude.{◌≡◌, ℕ, true, false, List, Option, Some, None, Ok}
 use Rattle.std.specs.List.{list_any}
 use Rattle.js_data.specs.Event.{PlainEvent, same_event}
 use Rattle.js_meaning.specs.Bodies.{Origin}
@@ -11,6 +11,7 @@ use Rattle.bp_run.specs.Selecting.{live}
 use Rattle.bp_run.specs.Choosing.{Touched, reach}
 use Rattle.bp_run.specs.Story.{line_of_choice, stepped}
 use Rattle.bp_floor.specs.Floors.{PlainFloor, code_on, stop_of}
+use Rattle.bp_arbiter.specs.Arbiters.{is_lent}
 use Rattle.bp_free.specs.Free.{IsFreeEnd}
 use Rattle.bp_free.specs.Nexts.{AreReal, MayCome, MayBeNext}
 use Rattle.bp_audit.specs.declared.resting.Offer.{Offer}
@@ -29,6 +30,7 @@ pub record Steps (f : PlainFloor) (p : Pair Origin) (e : PlainEvent) (place : Op
 -- the floor went on with the event, which did not stop the run
 pub record GoesOn (f : PlainFloor) (e : PlainEvent) (place : Option ℕ) (g : PlainFloor) : Type 0 where
   pub free : stop_of f e ≡ None
+  pub unlent : is_lent g.phase ≡ false
   pub steps : (taken : List Line) (p : Pair Origin) → IsAt f taken p → Steps f p e place taken g
 
 -- it did, and this is behind its line; or it stops the run, and the floor is as it was
