@@ -11,13 +11,14 @@ use Rattle.bp_log.specs.declared.trace.Line.{Line}
 use Rattle.bp_log.specs.declared.verdict.Verdict.TheVariants as verdict
 use Rattle.bp_run.specs.Bodies.{Code}
 use Rattle.bp_run.specs.Configuration.{Stand}
-use Rattle.bp_run.specs.Settling.{Pair, settle, opening}
+use Rattle.bp_run.specs.Settling.{Pair, before, settle, opening}
 use Rattle.bp_run.specs.Selecting.{Asked, live}
 use Rattle.bp_run.specs.Choosing.{Touched, reach}
 use Rattle.bp_run.specs.Story.{line_of_choice, step, stepped, weight_after}
 use Rattle.bp_run.proofs.Growing.{grown_settle}
 use Rattle.bp_floor.specs.Floors.{PlainFloor, StandsFor, code_on}
 use Rattle.bp_arbiter.specs.Arbiters.{is_lent}
+use Rattle.bp_arbiter.proofs.Calls.{calls_opening}
 use Rattle.bp_arbiter.proofs.Told.{pair_lines}
 use Rattle.bp_free.specs.declared.answer.Answer.{Answer}
 use Rattle.bp_free.specs.declared.answer.Answer.TheVariants.{Yes, No}
@@ -229,3 +230,19 @@ few_made f whole made said rest r =
     let n = few_events (code_on f) f.options whole r.events (settle (code_on f) r.pair) (r.read).leads in
     let m = r.many in
     omega (arith, n, m)
+
+-- before anything has run
+pub opened : (f : PlainFloor) (whole : List ℕ) → f.pair ≡ opening → f.broken ≡ false → is_lent f.phase ≡ false → IsReadTo f whole 0 0 whole
+opened f whole pair broken unlent =
+    let stands : StandsFor f [] opening = ap (λ (p : Pair Origin). before [] p) (sym pair) in
+    record {
+      events = [];
+      taken = [];
+      pair = opening;
+      ahead = (settle (code_on f) opening).lines;
+      at = record { whole = broken; stands = stands; calls = calls_opening };
+      read = started (code_on f) f.options whole;
+      many = refl;
+      count = refl;
+      unlent = unlent;
+    }
