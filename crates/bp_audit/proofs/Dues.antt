@@ -36,8 +36,8 @@ use Rattle.bp_free.specs.Reasons.{is_at, is_first_queued}
 use Rattle.bp_free.proofs.Blockers.{inner_at}
 use Rattle.bp_free.proofs.Choosing.{if_any, at_place}
 use Rattle.bp_free.proofs.Open.{inner_of, is_open}
-use Rattle.bp_audit.specs.declared.resting.Offer.{Offer}
-use Rattle.bp_audit.specs.Dues.{IsOffer, IsOfferOf, IsOfQueue, IsOfRequests, Offers, due_on}
+use Rattle.bp_audit.specs.declared.resting.Selectable.{Selectable}
+use Rattle.bp_audit.specs.Dues.{IsSelectable, IsMadeOf, IsOfQueue, IsOfRequests, IsOpenTo, due_on}
 
 -- ---- phases
 
@@ -146,24 +146,24 @@ placed_by_queue : (inner : List PlainEvent) (outer : Option ℕ) (queue : List P
     place_among inner outer queue e ≡ (if list_any (same_event e) (f ∷ []) then Some (Some i) else None)
 placed_by_queue inner outer queue e f i h k m = rw (h, k, m) (or_none (same_event e f) i)
 
-requests_offer : {S : Type 0} (has : Has S) (ts : List (Live S)) (queue : List PlainEvent) (x : Enabled) (offer : Offer) → selectable has ts queue ≡ Ok x → (x.inner ≡ [] → ⊥) → IsOfRequests x offer → All IsEvent offer.events.items →
-    IsOffer x queue offer
-requests_offer has ts queue x offer h n q real = record {
+requests_given : {S : Type 0} (has : Has S) (ts : List (Live S)) (queue : List PlainEvent) (x : Enabled) (given : Selectable) → selectable has ts queue ≡ Ok x → (x.inner ≡ [] → ⊥) → IsOfRequests x given → All IsEvent given.events.items →
+    IsSelectable x queue given
+requests_given has ts queue x given h n q real = record {
   placed = λ e.
       placed_by_request x.inner x.outer queue e n ∙ ap (λ (es : List PlainEvent). if list_any (same_event e) es then Some None else None) (sym q.events)
-      ∙ ap (λ (p : Option ℕ). if list_any (same_event e) offer.events.items then Some p else None) (sym q.place);
+      ∙ ap (λ (p : Option ℕ). if list_any (same_event e) given.events.items then Some p else None) (sym q.place);
   real = record {
     inner = subst (λ (es : List PlainEvent). All IsEvent es) q.events real;
     outer = λ i e k m. absurd (none-some _ (sym (only_inner has ts queue x h n) ∙ k));
   };
 }
 
-queue_offer : (queue : List PlainEvent) (x : Enabled) (offer : Offer) → IsOfQueue x queue offer → All IsEvent offer.events.items → IsOffer x queue offer
-queue_offer queue x offer q real = record {
+queue_given : (queue : List PlainEvent) (x : Enabled) (given : Selectable) → IsOfQueue x queue given → All IsEvent given.events.items → IsSelectable x queue given
+queue_given queue x given q real = record {
   placed = λ e.
       placed_by_queue x.inner x.outer queue e q.event q.index q.none q.first q.there
       ∙ ap (λ (es : List PlainEvent). if list_any (same_event e) es then Some (Some q.index) else None) (sym q.events)
-      ∙ ap (λ (p : Option ℕ). if list_any (same_event e) offer.events.items then Some p else None) (sym q.place);
+      ∙ ap (λ (p : Option ℕ). if list_any (same_event e) given.events.items then Some p else None) (sym q.place);
   real = record {
     inner = subst (λ (es : List PlainEvent). All IsEvent es) (sym q.none) (λ k d w. absurd (omega (arith, w)));
     outer = λ i e k m.
@@ -174,10 +174,10 @@ queue_offer queue x offer q real = record {
   };
 }
 
-pub offer_is : {S : Type 0} (has : Has S) (ts : List (Live S)) (queue : List PlainEvent) (x : Enabled) (offer : Offer) → selectable has ts queue ≡ Ok x → (x.inner ≡ [] → x.outer ≡ None → ⊥) → IsOfferOf x queue offer →
-    All IsEvent offer.events.items → IsOffer x queue offer
-offer_is has ts queue x offer h n (inl q) real = requests_offer has ts queue x offer h (λ e. n e (q.some e)) q real
-offer_is has ts queue x offer h n (inr q) real = queue_offer queue x offer q real
+pub given_is : {S : Type 0} (has : Has S) (ts : List (Live S)) (queue : List PlainEvent) (x : Enabled) (given : Selectable) → selectable has ts queue ≡ Ok x → (x.inner ≡ [] → x.outer ≡ None → ⊥) → IsMadeOf x queue given →
+    All IsEvent given.events.items → IsSelectable x queue given
+given_is has ts queue x given h n (inl q) real = requests_given has ts queue x given h (λ e. n e (q.some e)) q real
+given_is has ts queue x given h n (inr q) real = queue_given queue x given q real
 
 -- where something can be selected and the steps were not made
 pub goes_at : (o : PlainOptions) (s : Stand Origin) (inner : List PlainEvent) (outer : Option ℕ) → (inner ≡ [] → outer ≡ None → ⊥) → (s.transitions == o.steps) ≡ false →
@@ -192,17 +192,17 @@ steps_at o s [] None n k = absurd (n refl refl)
 steps_at o s [] (Some i) n k = rw k refl
 steps_at o s (e ∷ es) outer n k = rw k refl
 
--- ---- an event of an offer
+-- ---- a given event
 
-if_offered : (b : Bool) (p q : Option ℕ) → (if b then Some p else None) ≡ Some q → (b ≡ true) × (p ≡ q)
-if_offered true p q h = (refl, same_Some p q h)
-if_offered false p q h = absurd (none-some _ h)
+if_given : (b : Bool) (p q : Option ℕ) → (if b then Some p else None) ≡ Some q → (b ≡ true) × (p ≡ q)
+if_given true p q h = (refl, same_Some p q h)
+if_given false p q h = absurd (none-some _ h)
 
-pub offered : (x : Enabled) (queue : List PlainEvent) (offer : Offer) (e : PlainEvent) (place : Option ℕ) → IsOffer x queue offer → place_in x queue e ≡ Some place → (list_any (same_event e) offer.events.items ≡ true) × (offer.place ≡ place)
-offered x queue offer e place i h = if_offered (list_any (same_event e) offer.events.items) offer.place place (sym (i.placed e) ∙ h)
+pub placed_among_given : (x : Enabled) (queue : List PlainEvent) (given : Selectable) (e : PlainEvent) (place : Option ℕ) → IsSelectable x queue given → place_in x queue e ≡ Some place → (list_any (same_event e) given.events.items ≡ true) × (given.place ≡ place)
+placed_among_given x queue given e place i h = if_given (list_any (same_event e) given.events.items) given.place place (sym (i.placed e) ∙ h)
 
-pub placed : (x : Enabled) (queue : List PlainEvent) (offer : Offer) (e : PlainEvent) → IsOffer x queue offer → list_any (same_event e) offer.events.items ≡ true → place_in x queue e ≡ Some offer.place
-placed x queue offer e i h = i.placed e ∙ ap (λ (b : Bool). if b then Some offer.place else None) h
+pub placed : (x : Enabled) (queue : List PlainEvent) (given : Selectable) (e : PlainEvent) → IsSelectable x queue given → list_any (same_event e) given.events.items ≡ true → place_in x queue e ≡ Some given.place
+placed x queue given e i h = i.placed e ∙ ap (λ (b : Bool). if b then Some given.place else None) h
 
 if_none : (b : Bool) (q : Option ℕ) → (if b then Some None else None) ≡ Some q → None ≡ q
 if_none true q h = same_Some None q h
@@ -223,14 +223,14 @@ among_at [] (Some i) queue e q h =
     subst (λ (p : Option ℕ). IsAmong (record { inner = []; outer = Some i }) queue e p) (if_first (same_event e c.0) i q c.2)
     (refl, c.1 ∙ ap (λ (f : PlainEvent). Some f) (sym same))
 
-pub can_go : (f : PlainFloor) (offer : Offer) (e : PlainEvent) → Offers f offer → list_any (same_event e) offer.events.items ≡ true → CanGo f e offer.place
-can_go f offer e w h =
+pub can_go : (f : PlainFloor) (given : Selectable) (e : PlainEvent) → IsOpenTo f given → list_any (same_event e) given.events.items ≡ true → CanGo f e given.place
+can_go f given e w h =
     let x = w.enabled in
     let s = f.pair.stand in
     record {
       enabled = x;
       is_enabled = (is_open (code_on f) f.options s x w.goes).asked;
-      among = among_at x.inner x.outer s.queue e offer.place (placed x s.queue offer e w.is h);
+      among = among_at x.inner x.outer s.queue e given.place (placed x s.queue given e w.is h);
     }
 
 -- ---- the first of the queue
@@ -269,7 +269,7 @@ outer_if true (Some i) = refl
 outer_if false None = refl
 outer_if false (Some i) = refl
 
-pub first_queued : (x : Enabled) (queue : List PlainEvent) (offer : Offer) (e : PlainEvent) → IsOffer x queue offer →
-    is_first_queued x.inner x.outer queue e ≡ (is_some offer.place && list_any (same_event e) offer.events.items)
-first_queued x queue offer e i =
-    first_outer x.inner x.outer queue e ∙ ap is_outer (i.placed e) ∙ outer_if (list_any (same_event e) offer.events.items) offer.place
+pub first_queued : (x : Enabled) (queue : List PlainEvent) (given : Selectable) (e : PlainEvent) → IsSelectable x queue given →
+    is_first_queued x.inner x.outer queue e ≡ (is_some given.place && list_any (same_event e) given.events.items)
+first_queued x queue given e i =
+    first_outer x.inner x.outer queue e ∙ ap is_outer (i.placed e) ∙ outer_if (list_any (same_event e) given.events.items) given.place

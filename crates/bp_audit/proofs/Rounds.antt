@@ -35,7 +35,7 @@ use Rattle.bp_free.proofs.Open.{within}
 use Rattle.bp_audit.specs.Lines.{DiffersAt}
 use Rattle.bp_audit.specs.Rounds.{IsReadTo, answer_behind}
 use Rattle.bp_audit.specs.Standing.{IsAt, IsSomewhere, Settled}
-use Rattle.bp_audit.specs.Steps.{EndsAs, IsWrong, MovesAs}
+use Rattle.bp_audit.specs.NextLines.{EndsAs, IsWrong, MovesAs}
 use Rattle.bp_audit.proofs.Alike.{Alike, comes_alike, ends_alike, floor_alike, next_alike, reason_alike, turned_round}
 use Rattle.bp_audit.proofs.Standing.{with_none}
 

@@ -25,9 +25,9 @@ use Rattle.bp_free.specs.Reasons.{line_in, internal_in, external_in}
 use Rattle.bp_free.proofs.Choosing.{compact_is, internal_back, external_back, internal_not_external}
 use Rattle.bp_free.proofs.Lines.{lacks_line}
 use Rattle.bp_free.proofs.Reading.{apart_at}
-use Rattle.bp_audit.specs.declared.heads.Head.{Head}
-use Rattle.bp_audit.specs.declared.heads.Head.TheVariants.{Cut, TooLong, Event, External, Other}
-use Rattle.bp_audit.specs.Heads.{HeadAs, heard_from}
+use Rattle.bp_audit.specs.declared.claims.Claim.{Claim}
+use Rattle.bp_audit.specs.declared.claims.Claim.TheVariants.{Cut, TooLong, Event, External, Other}
+use Rattle.bp_audit.specs.Claims.{ClaimAs, claimed_from}
 use Rattle.bp_audit.specs.Lines.{Begins, IsNot}
 use Rattle.bp_audit.proofs.Fronts.{behind_back}
 
@@ -73,20 +73,20 @@ external_is line e h =
 same_pair : (e f : PlainEvent) (a b : List ℕ) → f ≡ e → a ≡ b → ◌≡◌ {A = Option (PlainEvent × List ℕ)} (Some (f, b)) (Some (e, a))
 same_pair e f a b h k = ap (λ (g : PlainEvent). Some (g, b)) h ∙ ap (λ (t : List ℕ). Some (e, t)) (sym k)
 
-heard_at : (e : PlainEvent) (place : Option ℕ) (line rest : List ℕ) (head : Head) → IsEvent e → HeadAs (whole line rest) head → line ≡ line_text (line_of_choice e place) → heard_from head place ≡ Some (e, rest)
-heard_at e place line rest Cut r h k = absurd h
-heard_at e place line rest TooLong r h k = absurd h
-heard_at e None line rest (Event f t) r h k = same_pair e f rest t.now (same_Some f e (sym h.0 ∙ ap internal_in k ∙ internal_back e r)) h.1
-heard_at e None line rest (External f t) r h k = absurd (none-some _ (sym h.0 ∙ ap internal_in k ∙ internal_back e r))
-heard_at e None line rest Other r h k = absurd (none-some _ (sym h.0 ∙ ap internal_in k ∙ internal_back e r))
-heard_at e (Some i) line rest (Event f t) r h k = absurd (none-some _ (sym (internal_not_external e) ∙ ap internal_in (sym k) ∙ h.0))
-heard_at e (Some i) line rest (External f t) r h k = same_pair e f rest t.now (same_Some f e (sym h.1 ∙ ap external_in k ∙ external_back e r)) h.2
-heard_at e (Some i) line rest Other r h k = absurd (none-some _ (sym h.1 ∙ ap external_in k ∙ external_back e r))
+claimed_at : (e : PlainEvent) (place : Option ℕ) (line rest : List ℕ) (claim : Claim) → IsEvent e → ClaimAs (whole line rest) claim → line ≡ line_text (line_of_choice e place) → claimed_from claim place ≡ Some (e, rest)
+claimed_at e place line rest Cut r h k = absurd h
+claimed_at e place line rest TooLong r h k = absurd h
+claimed_at e None line rest (Event f t) r h k = same_pair e f rest t.now (same_Some f e (sym h.0 ∙ ap internal_in k ∙ internal_back e r)) h.1
+claimed_at e None line rest (External f t) r h k = absurd (none-some _ (sym h.0 ∙ ap internal_in k ∙ internal_back e r))
+claimed_at e None line rest Other r h k = absurd (none-some _ (sym h.0 ∙ ap internal_in k ∙ internal_back e r))
+claimed_at e (Some i) line rest (Event f t) r h k = absurd (none-some _ (sym (internal_not_external e) ∙ ap internal_in (sym k) ∙ h.0))
+claimed_at e (Some i) line rest (External f t) r h k = same_pair e f rest t.now (same_Some f e (sym h.1 ∙ ap external_in k ∙ external_back e r)) h.2
+claimed_at e (Some i) line rest Other r h k = absurd (none-some _ (sym h.1 ∙ ap external_in k ∙ external_back e r))
 
 -- the line of a real event says so
-pub heard : (e : PlainEvent) (place : Option ℕ) (bytes more : List ℕ) (head : Head) → IsEvent e → HeadAs (line_in bytes) head → Begins bytes (line_of_choice e place) more → heard_from head place ≡ Some (e, more)
-heard e place bytes more head r h b =
-    heard_at e place (line_text (line_of_choice e place)) more head r (subst (λ (x : Front). HeadAs x head) (event_there e place bytes more r b) h) refl
+pub claimed : (e : PlainEvent) (place : Option ℕ) (bytes more : List ℕ) (claim : Claim) → IsEvent e → ClaimAs (line_in bytes) claim → Begins bytes (line_of_choice e place) more → claimed_from claim place ≡ Some (e, more)
+claimed e place bytes more claim r h b =
+    claimed_at e place (line_text (line_of_choice e place)) more claim r (subst (λ (x : Front). ClaimAs x claim) (event_there e place bytes more r b) h) refl
 
 -- what is said is there
 said_whole : (bytes line left : List ℕ) (d : Line) (rest : List ℕ) → line_in bytes ≡ whole line left → line ≡ line_text d → left ≡ rest → Begins bytes d rest
@@ -98,7 +98,7 @@ same_event_there f e t rest h =
     let q : (f, t) ≡ (e, rest) = same_Some (f, t) (e, rest) h in
     (ap (λ (p : PlainEvent × List ℕ). p.0) q, ap (λ (p : PlainEvent × List ℕ). p.1) q)
 
-said_at : (e : PlainEvent) (place : Option ℕ) (bytes rest : List ℕ) (front : Front) (head : Head) → line_in bytes ≡ front → HeadAs front head → heard_from head place ≡ Some (e, rest) → Begins bytes (line_of_choice e place) rest
+said_at : (e : PlainEvent) (place : Option ℕ) (bytes rest : List ℕ) (front : Front) (claim : Claim) → line_in bytes ≡ front → ClaimAs front claim → claimed_from claim place ≡ Some (e, rest) → Begins bytes (line_of_choice e place) rest
 said_at e place bytes rest front Cut q h k = absurd (none-some _ k)
 said_at e place bytes rest front TooLong q h k = absurd (none-some _ k)
 said_at e place bytes rest front Other q h k = absurd (none-some _ k)
@@ -117,5 +117,5 @@ said_at e (Some i) bytes rest (whole line left) (External f t) q h k =
     let s = same_event_there f e t.now rest k in
     said_whole bytes line left (trace.External e) rest q (external_is line e (h.1 ∙ ap (λ (g : PlainEvent). Some g) s.0)) (h.2 ∙ s.1)
 
-pub said : (e : PlainEvent) (place : Option ℕ) (bytes rest : List ℕ) (head : Head) → HeadAs (line_in bytes) head → heard_from head place ≡ Some (e, rest) → Begins bytes (line_of_choice e place) rest
-said e place bytes rest head h k = said_at e place bytes rest (line_in bytes) head refl h k
+pub said : (e : PlainEvent) (place : Option ℕ) (bytes rest : List ℕ) (claim : Claim) → ClaimAs (line_in bytes) claim → claimed_from claim place ≡ Some (e, rest) → Begins bytes (line_of_choice e place) rest
+said e place bytes rest claim h k = said_at e place bytes rest (line_in bytes) claim refl h k

@@ -7,7 +7,7 @@ use Rattle.bp_floor.specs.Floors.{PlainFloor, code_on}
 use Rattle.bp_free.specs.Due as free
 use Rattle.bp_free.specs.Free.{place_in}
 use Rattle.bp_free.specs.Nexts.{AreReal}
-use Rattle.bp_audit.specs.declared.resting.Offer.{Offer}
+use Rattle.bp_audit.specs.declared.resting.Selectable.{Selectable}
 use Rattle.bp_audit.specs.declared.resting.Due.{Due}
 use Rattle.bp_audit.specs.declared.resting.Due.TheVariants as due
 
@@ -16,38 +16,38 @@ abbrev pub due_on : PlainFloor → free.Due
 due_on f = free.due (code_on f) f.options f.pair.stand
 
 -- the requested events that can be selected
-pub record IsOfRequests (x : Enabled) (offer : Offer) : Type 0 where
-  pub events : offer.events.items ≡ x.inner
-  pub place : offer.place ≡ None
+pub record IsOfRequests (x : Enabled) (given : Selectable) : Type 0 where
+  pub events : given.events.items ≡ x.inner
+  pub place : given.place ≡ None
   pub some : x.inner ≡ [] → x.outer ≡ None
 
 -- the one event of the queue that can be selected
-pub record IsOfQueue (x : Enabled) (queue : List PlainEvent) (offer : Offer) : Type 0 where
+pub record IsOfQueue (x : Enabled) (queue : List PlainEvent) (given : Selectable) : Type 0 where
   pub event : PlainEvent
   pub index : ℕ
-  pub events : offer.events.items ≡ event ∷ []
-  pub place : offer.place ≡ Some index
+  pub events : given.events.items ≡ event ∷ []
+  pub place : given.place ≡ Some index
   pub none : x.inner ≡ []
   pub first : x.outer ≡ Some index
   pub there : slice_get queue index ≡ Some event
 
-abbrev pub IsOfferOf : Enabled → List PlainEvent → Offer → Type 0
-IsOfferOf x queue offer = IsOfRequests x offer ⊎ IsOfQueue x queue offer
+abbrev pub IsMadeOf : Enabled → List PlainEvent → Selectable → Type 0
+IsMadeOf x queue given = IsOfRequests x given ⊎ IsOfQueue x queue given
 
--- the events that can be selected, all from the place of the offer
-pub record IsOffer (x : Enabled) (queue : List PlainEvent) (offer : Offer) : Type 0 where
+-- the events that can be selected, all from the place that is given
+pub record IsSelectable (x : Enabled) (queue : List PlainEvent) (given : Selectable) : Type 0 where
   pub placed : (e : PlainEvent) → place_in x queue e
-      ≡ (if list_any (same_event e) offer.events.items then Some offer.place else None)
+      ≡ (if list_any (same_event e) given.events.items then Some given.place else None)
   pub real : AreReal x queue
 
 abbrev pub DueAs : free.Due → List PlainEvent → Due → Type 0
 DueAs (free.Ends v) queue (due.Ends w) = v ≡ w
 DueAs (free.Idles v) queue (due.Idles w) = v ≡ w
-DueAs (free.Goes x) queue (due.Goes offer) = IsOffer x queue offer
+DueAs (free.Goes x) queue (due.Goes given) = IsSelectable x queue given
 DueAs _ _ _ = ⊥
 
--- what may come on the floor are the events of the offer
-pub record Offers (f : PlainFloor) (offer : Offer) : Type 0 where
+-- what may come on the floor are the given events
+pub record IsOpenTo (f : PlainFloor) (given : Selectable) : Type 0 where
   pub enabled : Enabled
   pub goes : due_on f ≡ free.Goes enabled
-  pub is : IsOffer enabled f.pair.stand.queue offer
+  pub is : IsSelectable enabled f.pair.stand.queue given

@@ -6,7 +6,7 @@ ghost use Rattle.bp_run.specs.Selecting.{selectable};
 ghost use Rattle.bp_select.specs.Answers.{enabled_of};
 ghost use Rattle.bp_floor.specs.Floors.{has_on, live_on, is_idle};
 ghost use Rattle.bp_free.specs.Due.{due_among, idle_verdict};
-ghost use Rattle.bp_audit.specs.Dues.{DueAs, IsOfferOf, due_on};
+ghost use Rattle.bp_audit.specs.Dues.{DueAs, IsMadeOf, due_on};
 
 use bp_floor::Floor;
 use bp_log::limits::MOST_WAITING;
@@ -17,14 +17,14 @@ use std::alloc::{AllocError, Global};
 
 /// Events that may come, all from the same place.
 #[derive(Drop)]
-pub(crate) struct Offer {
+pub(crate) struct Selectable {
     /// One of these, or the verdict with which one of them stops the run.
     pub events: Vec<Event>,
     /// Their place in the queue; none where b-threads request them.
     pub place: Option<u32>,
 }
 
-impl Offer {
+impl Selectable {
     /// Whether the event is one of these.
     pub(crate) fn has(&self, event: &Event) -> bool
         ensures { result ≡ list_any (same_event event.now) self.now.events.items }
@@ -44,7 +44,7 @@ pub(crate) enum Due {
     /// This verdict alone.
     Ends(Verdict),
     /// An event.
-    Goes(Offer),
+    Goes(Selectable),
     /// As nothing can be selected, this verdict.
     Idles(Verdict),
 }
@@ -71,20 +71,20 @@ fn verdict_when_idle(floor: &Floor) -> Verdict
 
 /// The events that may come where this can be selected: all that are requested, or else the one of
 /// the queue.
-fn offer_of(alloc: Global, floor: &Floor, enabled: Enabled) -> Result<Offer, Memory>
+fn selectable_of(alloc: Global, floor: &Floor, enabled: Enabled) -> Result<Selectable, Memory>
     requires within { IfSome enabled.outer (λ i. i < length floor.now.pair.stand.queue) }
-    ensures { IfOk result (IsOfferOf (enabled_of enabled) floor.now.pair.stand.queue) }
+    ensures { IfOk result (IsMadeOf (enabled_of enabled) floor.now.pair.stand.queue) }
 {
     match enabled.outer {
         Some(place) if enabled.inner.is_empty() => {
             let mut events = Vec::new(alloc);
             events.push(floor.queue()[place as usize].copy()?)?;
-            Ok(Offer {
+            Ok(Selectable {
                 events,
                 place: Some(place),
             })
         }
-        _ => Ok(Offer {
+        _ => Ok(Selectable {
             events: enabled.inner,
             place: None,
         }),
@@ -105,13 +105,13 @@ fn among(alloc: Global, floor: &Floor, enabled: Enabled) -> Result<Due, Memory>
     if floor.transitions() == steps {
         return Ok(Due::Ends(Verdict::Steps(steps)));
     }
-    let offer = offer_of(alloc, floor, enabled)?;
-    are_events(offer.events.as_slice());
-    Ok(Due::Goes(offer))
+    let given = selectable_of(alloc, floor, enabled)?;
+    are_events(given.events.as_slice());
+    Ok(Due::Goes(given))
 }
 
 /// What may come.
-pub(crate) fn look(alloc: Global, floor: &mut Floor) -> Result<Due, Memory>
+pub(crate) fn due_of(alloc: Global, floor: &mut Floor) -> Result<Due, Memory>
     requires idle { is_idle floor.old.phase ≡ true }
     requires whole { floor.old.broken ≡ false }
     ensures due { IfOk result (DueAs (due_on floor.old) floor.old.pair.stand.queue) }

@@ -14,12 +14,12 @@ ghost use Rattle.bp_free.specs.Audits.{IsAudit};
 ghost use Rattle.bp_audit.specs.Standing.{IsSomewhere};
 ghost use Rattle.bp_audit.specs.Rounds.{IsReadTo, RoundAs, answer_behind};
 
-use crate::heads::head_of;
+use crate::claims::claim_of;
 use crate::lines::{Front, Passed, front_of, pass};
 use crate::reasons::reason_at_rest;
-use crate::resting::look;
+use crate::resting::due_of;
 use crate::settling::settle;
-use crate::stepping::{Step, take_step};
+use crate::next_lines::{NextLine, read_next};
 use bp_floor::Floor;
 use bp_free::{Answer, Reason};
 use bp_log::{Line, Lines, Memory, Options};
@@ -97,20 +97,20 @@ fn read_on<'a>(
         }
         Passed::All(left) => (counted(said, lines.as_slice().len()), left),
     };
-    let due = look(alloc, floor)?;
-    let head = head_of(alloc, rest)?;
-    match take_step(alloc, floor, &due, &head, rest)? {
-        Step::Moved(left) => {
+    let due = due_of(alloc, floor)?;
+    let claim = claim_of(alloc, rest)?;
+    match read_next(alloc, floor, &due, &claim, rest)? {
+        NextLine::Moved(left) => {
             // The line of the event was there.
             floor.take_lines();
             Ok(Round::Read(counted(said, 1), left))
         }
-        Step::Ended(left) => {
+        NextLine::Ended(left) => {
             let answer = behind_all(counted(said, 2), left, floor.transitions());
             Ok(Round::Answered(answer))
         }
-        Step::Wrong => {
-            let reason = reason_at_rest(alloc, floor, due, head)?;
+        NextLine::Wrong => {
+            let reason = reason_at_rest(alloc, floor, due, claim)?;
             Ok(Round::Answered(Answer::No(counted(said, 1), reason)))
         }
     }

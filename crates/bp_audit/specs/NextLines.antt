@@ -14,14 +14,14 @@ use Rattle.bp_floor.specs.Floors.{PlainFloor, code_on, stop_of}
 use Rattle.bp_arbiter.specs.Arbiters.{is_lent}
 use Rattle.bp_free.specs.Free.{IsFreeEnd}
 use Rattle.bp_free.specs.Nexts.{AreReal, MayCome, MayBeNext}
-use Rattle.bp_audit.specs.declared.resting.Offer.{Offer}
-use Rattle.bp_audit.specs.declared.stepping.Step.{Step}
-use Rattle.bp_audit.specs.declared.stepping.Step.TheVariants.{Moved, Ended, Wrong}
+use Rattle.bp_audit.specs.declared.resting.Selectable.{Selectable}
+use Rattle.bp_audit.specs.declared.next_lines.NextLine.{NextLine}
+use Rattle.bp_audit.specs.declared.next_lines.NextLine.TheVariants.{Moved, Ended, Wrong}
 use Rattle.bp_audit.specs.Lines.{Begins, IsNot}
 use Rattle.bp_audit.specs.Standing.{IsAt}
 
 -- the event of a pair, and where it leads
-pub record Steps (f : PlainFloor) (p : Pair Origin) (e : PlainEvent) (place : Option ℕ)
+pub record Leads (f : PlainFloor) (p : Pair Origin) (e : PlainEvent) (place : Option ℕ)
     (taken : List Line) (g : PlainFloor) : Type 0 where
   pub reached : List Touched
   pub reach_is : reach (code_on f).has e (live (code_on f) p.stand) ≡ Ok reached
@@ -31,10 +31,10 @@ pub record Steps (f : PlainFloor) (p : Pair Origin) (e : PlainEvent) (place : Op
 pub record GoesOn (f : PlainFloor) (e : PlainEvent) (place : Option ℕ) (g : PlainFloor) : Type 0 where
   pub free : stop_of f e ≡ None
   pub unlent : is_lent g.phase ≡ false
-  pub steps : (taken : List Line) (p : Pair Origin) → IsAt f taken p → Steps f p e place taken g
+  pub steps : (taken : List Line) (p : Pair Origin) → IsAt f taken p → Leads f p e place taken g
 
 -- it did, and this is behind its line; or it stops the run, and the floor is as it was
-abbrev pub WentAs : PlainFloor → PlainEvent → Option ℕ → List ℕ → Step → PlainFloor → Type 0
+abbrev pub WentAs : PlainFloor → PlainEvent → Option ℕ → List ℕ → NextLine → PlainFloor → Type 0
 WentAs f e place rest (Moved left) g = GoesOn f e place g × (rest ≡ left.now)
 WentAs f e place rest (Ended left) g = ⊥
 WentAs f e place rest Wrong g = (v : Verdict) × (stop_of f e ≡ Some v) × (g ≡ f)
@@ -58,13 +58,13 @@ pub record EndsAs (f : PlainFloor) (bytes rest : List ℕ) : Type 0 where
 abbrev pub IsWrong : PlainFloor → List ℕ → Type 0
 IsWrong f bytes = (d : Line) → MayBeNext (code_on f) f.options f.pair.stand d → IsNot d bytes
 
-abbrev pub StepAs : PlainFloor → List ℕ → Step → PlainFloor → Type 0
-StepAs f bytes (Moved rest) g = MovesAs f bytes rest.now g
-StepAs f bytes (Ended rest) g = EndsAs f bytes rest.now × (g ≡ f)
-StepAs f bytes Wrong g = IsWrong f bytes × (g ≡ f)
+abbrev pub NextAs : PlainFloor → List ℕ → NextLine → PlainFloor → Type 0
+NextAs f bytes (Moved rest) g = MovesAs f bytes rest.now g
+NextAs f bytes (Ended rest) g = EndsAs f bytes rest.now × (g ≡ f)
+NextAs f bytes Wrong g = IsWrong f bytes × (g ≡ f)
 
 -- the next line is that of this verdict, or it is not
-abbrev pub VerdictAs : Verdict → List ℕ → Step → Type 0
+abbrev pub VerdictAs : Verdict → List ℕ → NextLine → Type 0
 VerdictAs v bytes (Moved rest) = ⊥
 VerdictAs v bytes (Ended rest) = Begins bytes (trace.Verdict v) rest.now
 VerdictAs v bytes Wrong = IsNot (trace.Verdict v) bytes
@@ -83,14 +83,14 @@ abbrev pub StopsWith : PlainFloor → PlainEvent → List ℕ → Option (List �
 StopsWith f e bytes (Some rest) = StopsThere f e bytes rest
 StopsWith f e bytes None = StopsNot f e bytes
 
--- one of the events of the offer stops the run so
+-- one of the given events stops the run so
 pub record OneStops (f : PlainFloor) (events : List PlainEvent) (bytes rest : List ℕ) : Type 0 where
   pub event : PlainEvent
   pub among : list_any (same_event event) events ≡ true
   pub stops : StopsThere f event bytes rest
 
-abbrev pub StopStep : PlainFloor → Offer → List ℕ → Step → Type 0
-StopStep f offer bytes (Moved rest) = ⊥
-StopStep f offer bytes (Ended rest) = OneStops f offer.events.items bytes rest.now
-StopStep f offer bytes Wrong =
-    (e : PlainEvent) → list_any (same_event e) offer.events.items ≡ true → StopsNot f e bytes
+abbrev pub StopNext : PlainFloor → Selectable → List ℕ → NextLine → Type 0
+StopNext f given bytes (Moved rest) = ⊥
+StopNext f given bytes (Ended rest) = OneStops f given.events.items bytes rest.now
+StopNext f given bytes Wrong =
+    (e : PlainEvent) → list_any (same_event e) given.events.items ≡ true → StopsNot f e bytes

@@ -22,19 +22,19 @@ use Rattle.bp_free.specs.Free.{StopsAt, IsFreeEnd, EndsBy, place_in}
 use Rattle.bp_free.specs.Nexts.{MayBeNext}
 use Rattle.bp_free.specs.Reasons.{line_in}
 use Rattle.bp_free.proofs.Choosing.{next_open, next_verdict, placed_real}
-use Rattle.bp_audit.specs.declared.heads.Head.{Head}
-use Rattle.bp_audit.specs.declared.resting.Offer.{Offer}
+use Rattle.bp_audit.specs.declared.claims.Claim.{Claim}
+use Rattle.bp_audit.specs.declared.resting.Selectable.{Selectable}
 use Rattle.bp_audit.specs.declared.resting.Due.TheVariants as due
-use Rattle.bp_audit.specs.declared.stepping.Step.{Step}
-use Rattle.bp_audit.specs.declared.stepping.Step.TheVariants.{Moved, Ended, Wrong}
-use Rattle.bp_audit.specs.Dues.{DueAs, IsOffer, Offers, due_on}
-use Rattle.bp_audit.specs.Heads.{HeadAs, heard_from}
+use Rattle.bp_audit.specs.declared.next_lines.NextLine.{NextLine}
+use Rattle.bp_audit.specs.declared.next_lines.NextLine.TheVariants.{Moved, Ended, Wrong}
+use Rattle.bp_audit.specs.Dues.{DueAs, IsSelectable, IsOpenTo, due_on}
+use Rattle.bp_audit.specs.Claims.{ClaimAs, claimed_from}
 use Rattle.bp_audit.specs.Lines.{Begins, IsNot}
 use Rattle.bp_audit.specs.Standing.{IsAt}
-use Rattle.bp_audit.specs.Steps.{GoesOn, IsWrong, MovesAs, OneStops, Steps, StepAs, StopsNot, StopsThere, StopsWith, StopStep, VerdictAs, WentAs}
+use Rattle.bp_audit.specs.NextLines.{GoesOn, IsWrong, MovesAs, OneStops, Leads, NextAs, StopsNot, StopsThere, StopsWith, StopNext, VerdictAs, WentAs}
 use Rattle.bp_audit.proofs.Alike.{stop_on}
-use Rattle.bp_audit.proofs.Dues.{offered, placed}
-use Rattle.bp_audit.proofs.Saying.{begins_at, heard, not_at, not_both, said}
+use Rattle.bp_audit.proofs.Dues.{placed_among_given, placed}
+use Rattle.bp_audit.proofs.Saying.{begins_at, claimed, not_at, not_both, said}
 
 -- ---- going on
 
@@ -83,17 +83,17 @@ due_idles (free.Ends w) queue v h = absurd h
 due_idles (free.Goes x) queue v h = absurd h
 due_idles (free.Idles w) queue v h = ap (λ (x : Verdict). free.Idles x) h
 
-offers_at : (f : PlainFloor) (d : free.Due) (offer : Offer) → due_on f ≡ d → DueAs d f.pair.stand.queue (due.Goes offer) → Offers f offer
-offers_at f (free.Ends w) offer e h = absurd h
-offers_at f (free.Goes x) offer e h = record { enabled = x; goes = e; is = h }
-offers_at f (free.Idles w) offer e h = absurd h
+open_at : (f : PlainFloor) (d : free.Due) (given : Selectable) → due_on f ≡ d → DueAs d f.pair.stand.queue (due.Goes given) → IsOpenTo f given
+open_at f (free.Ends w) given e h = absurd h
+open_at f (free.Goes x) given e h = record { enabled = x; goes = e; is = h }
+open_at f (free.Idles w) given e h = absurd h
 
-pub due_goes : (f : PlainFloor) (offer : Offer) → DueAs (due_on f) f.pair.stand.queue (due.Goes offer) → Offers f offer
-due_goes f offer h = offers_at f (due_on f) offer refl h
+pub due_goes : (f : PlainFloor) (given : Selectable) → DueAs (due_on f) f.pair.stand.queue (due.Goes given) → IsOpenTo f given
+due_goes f given h = open_at f (due_on f) given refl h
 
 -- what is due is no verdict alone
-pub goes_no_end : (f : PlainFloor) (offer : Offer) → Offers f offer → (w : Verdict) → due_on f ≡ free.Ends w → ⊥
-goes_no_end f offer h w e = let q : free.Goes h.enabled ≡ free.Ends w = sym h.goes ∙ e in absurd (cc)
+pub goes_no_end : (f : PlainFloor) (given : Selectable) → IsOpenTo f given → (w : Verdict) → due_on f ≡ free.Ends w → ⊥
+goes_no_end f given h w e = let q : free.Goes h.enabled ≡ free.Ends w = sym h.goes ∙ e in absurd (cc)
 
 pub idles_no_end : (f : PlainFloor) (v : Verdict) → due_on f ≡ free.Idles v → (w : Verdict) → due_on f ≡ free.Ends w → ⊥
 idles_no_end f v h w e = let q : free.Idles v ≡ free.Ends w = sym h ∙ e in absurd (cc)
@@ -102,64 +102,64 @@ free_end : (f : PlainFloor) (v : Verdict) → (due_on f ≡ free.Ends v) ⊎ (du
 free_end f v (inl h) = subst (λ (d : free.Due). EndsBy (code_on f) f.pair.stand v d) (sym h) refl
 free_end f v (inr h) = subst (λ (d : free.Due). EndsBy (code_on f) f.pair.stand v d) (sym h) refl
 
-pub verdict_step : (f : PlainFloor) (v : Verdict) (bytes : List ℕ) (x : Step) → (due_on f ≡ free.Ends v) ⊎ (due_on f ≡ free.Idles v) → VerdictAs v bytes x → StepAs f bytes x f
-verdict_step f v bytes (Moved rest) h k = absurd k
-verdict_step f v bytes (Ended rest) h k = (record { verdict = v; ends = free_end f v h; line = k }, refl)
-verdict_step f v bytes Wrong h k = (λ d m. subst (λ (x : Line). IsNot x bytes) (sym (next_verdict (code_on f) f.options f.pair.stand v d h m)) k, refl)
+pub verdict_next : (f : PlainFloor) (v : Verdict) (bytes : List ℕ) (x : NextLine) → (due_on f ≡ free.Ends v) ⊎ (due_on f ≡ free.Idles v) → VerdictAs v bytes x → NextAs f bytes x f
+verdict_next f v bytes (Moved rest) h k = absurd k
+verdict_next f v bytes (Ended rest) h k = (record { verdict = v; ends = free_end f v h; line = k }, refl)
+verdict_next f v bytes Wrong h k = (λ d m. subst (λ (x : Line). IsNot x bytes) (sym (next_verdict (code_on f) f.options f.pair.stand v d h m)) k, refl)
 
 -- ---- an event may come
 
-module _ (f : PlainFloor) (offer : Offer) (bytes : List ℕ) (head : Head) (w : Offers f offer) (h : HeadAs (line_in bytes) head) where
-  wrong : ((e : PlainEvent) (more : List ℕ) → list_any (same_event e) offer.events.items ≡ true → stop_of f e ≡ None → heard_from head offer.place ≡ Some (e, more) → ⊥) →
+module _ (f : PlainFloor) (given : Selectable) (bytes : List ℕ) (claim : Claim) (w : IsOpenTo f given) (h : ClaimAs (line_in bytes) claim) where
+  wrong : ((e : PlainEvent) (more : List ℕ) → list_any (same_event e) given.events.items ≡ true → stop_of f e ≡ None → claimed_from claim given.place ≡ Some (e, more) → ⊥) →
       ((v : Verdict) (more : List ℕ) → StopsAt (code_on f) f.pair.stand w.enabled v → Begins bytes (trace.Verdict v) more → ⊥) → IsWrong f bytes
   wrong no_event no_verdict = λ d m more b. elim (next_open (code_on f) f.options f.pair.stand w.enabled d w.goes m) [
     | inl n ↦
-        let o = offered w.enabled f.pair.stand.queue offer n.event n.place w.is n.placed in
-        let there : Begins bytes (line_of_choice n.event offer.place) more =
+        let o = placed_among_given w.enabled f.pair.stand.queue given n.event n.place w.is n.placed in
+        let there : Begins bytes (line_of_choice n.event given.place) more =
         subst (λ (q : Option ℕ). Begins bytes (line_of_choice n.event q) more) (sym o.1) (subst (λ (x : Line). Begins bytes x more) n.line b) in
         no_event n.event more o.0 (sym (stop_on f n.event) ∙ n.goes)
-        (heard n.event offer.place bytes more head (placed_real w.enabled f.pair.stand.queue n.event n.place (w.is).real n.placed) h there)
+        (claimed n.event given.place bytes more claim (placed_real w.enabled f.pair.stand.queue n.event n.place (w.is).real n.placed) h there)
     | inr n ↦ no_verdict n.verdict more n.stops (subst (λ (x : Line). Begins bytes x more) n.line b)
   ]
 
   -- the line says that an event comes that can't, or that stops the run
-  pub wrong_said : (e : PlainEvent) (rest : List ℕ) → heard_from head offer.place ≡ Some (e, rest) → (list_any (same_event e) offer.events.items ≡ true → stop_of f e ≡ None → ⊥) → IsWrong f bytes
+  pub wrong_said : (e : PlainEvent) (rest : List ℕ) → claimed_from claim given.place ≡ Some (e, rest) → (list_any (same_event e) given.events.items ≡ true → stop_of f e ≡ None → ⊥) → IsWrong f bytes
   wrong_said e rest k n = wrong
     (λ g more a s m.
         let q : (e, rest) ≡ (g, more) = same_Some (e, rest) (g, more) (sym k ∙ m) in
         let same : g ≡ e = ap (λ (p : PlainEvent × List ℕ). p.0) (sym q) in
-        n (subst (λ (x : PlainEvent). list_any (same_event x) offer.events.items ≡ true) same a) (subst (λ (x : PlainEvent). stop_of f x ≡ None) same s))
-    (λ v more s b. not_both (code_on f) f.options e offer.place v bytes rest more (said e offer.place bytes rest head h k) b)
+        n (subst (λ (x : PlainEvent). list_any (same_event x) given.events.items ≡ true) same a) (subst (λ (x : PlainEvent). stop_of f x ≡ None) same s))
+    (λ v more s b. not_both (code_on f) f.options e given.place v bytes rest more (said e given.place bytes rest claim h k) b)
 
-  stops_offered : (v : Verdict) (more : List ℕ) → ((e : PlainEvent) → list_any (same_event e) offer.events.items ≡ true → StopsNot f e bytes) → StopsAt (code_on f) f.pair.stand w.enabled v → Begins bytes (trace.Verdict v) more → ⊥
-  stops_offered v more n s b =
-      let o = offered w.enabled f.pair.stand.queue offer s.event s.place w.is s.placed in
+  stops_given : (v : Verdict) (more : List ℕ) → ((e : PlainEvent) → list_any (same_event e) given.events.items ≡ true → StopsNot f e bytes) → StopsAt (code_on f) f.pair.stand w.enabled v → Begins bytes (trace.Verdict v) more → ⊥
+  stops_given v more n s b =
+      let o = placed_among_given w.enabled f.pair.stand.queue given s.event s.place w.is s.placed in
       n s.event o.0 v (sym (stop_on f s.event) ∙ s.stops) more b
 
   -- the line is not that of an event, and none stops the run with the verdict that is there
-  pub stop_step : (x : Step) → heard_from head offer.place ≡ None → StopStep f offer bytes x → StepAs f bytes x f
-  stop_step (Moved rest) k s = absurd s
-  stop_step (Ended rest) k s =
+  pub stop_next : (x : NextLine) → claimed_from claim given.place ≡ None → StopNext f given bytes x → NextAs f bytes x f
+  stop_next (Moved rest) k s = absurd s
+  stop_next (Ended rest) k s =
       (record {
         verdict = (s.stops).verdict;
         ends = subst (λ (d : free.Due). EndsBy (code_on f) f.pair.stand (s.stops).verdict d) (sym w.goes)
-            (record { event = s.event; place = offer.place; placed = placed w.enabled f.pair.stand.queue offer s.event w.is s.among; stops = stop_on f s.event ∙ (s.stops).stops });
+            (record { event = s.event; place = given.place; placed = placed w.enabled f.pair.stand.queue given s.event w.is s.among; stops = stop_on f s.event ∙ (s.stops).stops });
         line = (s.stops).line;
       }, refl)
-  stop_step Wrong k s = (wrong (λ e more a t m. absurd (none-some _ (sym k ∙ m))) (λ v more t b. stops_offered v more s t b), refl)
+  stop_next Wrong k s = (wrong (λ e more a t m. absurd (none-some _ (sym k ∙ m))) (λ v more t b. stops_given v more s t b), refl)
 
   -- it is, and the event is one of these
-  pub event_step : (e : PlainEvent) (rest : List ℕ) (x : Step) (g : PlainFloor) → heard_from head offer.place ≡ Some (e, rest) → list_any (same_event e) offer.events.items ≡ true → WentAs f e offer.place rest x g → StepAs f bytes x g
-  event_step e rest (Moved left) g k a s = record {
+  pub event_next : (e : PlainEvent) (rest : List ℕ) (x : NextLine) (g : PlainFloor) → claimed_from claim given.place ≡ Some (e, rest) → list_any (same_event e) given.events.items ≡ true → WentAs f e given.place rest x g → NextAs f bytes x g
+  event_next e rest (Moved left) g k a s = record {
     event = e;
-    place = offer.place;
-    comes = record { enabled = w.enabled; goes = w.goes; placed = placed w.enabled f.pair.stand.queue offer e w.is a; free = stop_on f e ∙ (s.0).free };
+    place = given.place;
+    comes = record { enabled = w.enabled; goes = w.goes; placed = placed w.enabled f.pair.stand.queue given e w.is a; free = stop_on f e ∙ (s.0).free };
     real = (w.is).real;
-    line = subst (λ (t : List ℕ). Begins bytes (line_of_choice e offer.place) t) s.1 (said e offer.place bytes rest head h k);
+    line = subst (λ (t : List ℕ). Begins bytes (line_of_choice e given.place) t) s.1 (said e given.place bytes rest claim h k);
     goes = s.0;
   }
-  event_step e rest (Ended left) g k a s = absurd s
-  event_step e rest Wrong g k a s = (wrong_said e rest k (λ b n. none-some _ (sym n ∙ s.1)), s.2)
+  event_next e rest (Ended left) g k a s = absurd s
+  event_next e rest Wrong g k a s = (wrong_said e rest k (λ b n. none-some _ (sym n ∙ s.1)), s.2)
 
-  pub no_event_step : (e : PlainEvent) (rest : List ℕ) → heard_from head offer.place ≡ Some (e, rest) → list_any (same_event e) offer.events.items ≡ false → StepAs f bytes Wrong f
-  no_event_step e rest k n = (wrong_said e rest k (λ b t. absurd (false≢true (sym n ∙ b))), refl)
+  pub no_event_next : (e : PlainEvent) (rest : List ℕ) → claimed_from claim given.place ≡ Some (e, rest) → list_any (same_event e) given.events.items ≡ false → NextAs f bytes Wrong f
+  no_event_next e rest k n = (wrong_said e rest k (λ b t. absurd (false≢true (sym n ∙ b))), refl)

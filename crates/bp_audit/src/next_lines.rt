@@ -6,13 +6,13 @@ ghost use Rattle.bp_reading.specs.Words.{behind};
 ghost use Rattle.bp_free.specs.Reasons.{line_in};
 ghost use Rattle.bp_floor.specs.declared.phase.Phase.TheVariants as phase;
 ghost use Rattle.bp_floor.specs.Floors.{CanGo, is_idle};
-ghost use Rattle.bp_audit.specs.Dues.{DueAs, Offers, due_on};
-ghost use Rattle.bp_audit.specs.Heads.{HeadAs};
-ghost use Rattle.bp_audit.specs.Steps.{StepAs, StopStep, StopsWith, VerdictAs, WentAs};
+ghost use Rattle.bp_audit.specs.Dues.{DueAs, IsOpenTo, due_on};
+ghost use Rattle.bp_audit.specs.Claims.{ClaimAs};
+ghost use Rattle.bp_audit.specs.NextLines.{NextAs, StopNext, StopsWith, VerdictAs, WentAs};
 
-use crate::heads::Head;
+use crate::claims::Claim;
 use crate::lines::behind_word;
-use crate::resting::{Due, Offer};
+use crate::resting::{Due, Selectable};
 use bp_floor::{Floor, Went};
 use bp_log::{Line, Memory, Verdict, whole_line_of};
 use js_data::Event;
@@ -20,7 +20,7 @@ use std::alloc::Global;
 
 /// What the next line is.
 #[derive(Clone, Copy)]
-pub(crate) enum Step<'a> {
+pub(crate) enum NextLine<'a> {
     /// That of an event, with which the floor went on; this is behind it.
     Moved(&'a [u8]),
     /// That of a verdict with which the run may end; this is behind it.
@@ -66,25 +66,25 @@ fn go<'a>(
     event: &Event,
     place: Option<u32>,
     rest: &'a [u8],
-) -> Result<Step<'a>, Memory>
+) -> Result<NextLine<'a>, Memory>
     requires rest { floor.old.phase ≡ phase.Rest }
     requires whole { floor.old.broken ≡ false }
     requires can { CanGo floor.old event.now place }
     ensures { IfOk result (λ x. WentAs floor.old event.now place rest.now x floor.new) }
 {
     match floor.go(alloc, event, place)? {
-        Went::Moved => Ok(Step::Moved(rest)),
-        Went::Stopped(_) => Ok(Step::Wrong),
+        Went::Moved => Ok(NextLine::Moved(rest)),
+        Went::Stopped(_) => Ok(NextLine::Wrong),
     }
 }
 
 /// Where only this verdict may come.
-fn at_end<'a>(alloc: Global, verdict: &Verdict, bytes: &'a [u8]) -> Result<Step<'a>, Memory>
+fn at_end<'a>(alloc: Global, verdict: &Verdict, bytes: &'a [u8]) -> Result<NextLine<'a>, Memory>
     ensures { IfOk result (VerdictAs verdict.now bytes.now) }
 {
     match behind_verdict(alloc, verdict.copy()?, bytes)? {
-        Some(rest) => Ok(Step::Ended(rest)),
-        None => Ok(Step::Wrong),
+        Some(rest) => Ok(NextLine::Ended(rest)),
+        None => Ok(NextLine::Wrong),
     }
 }
 
@@ -92,61 +92,61 @@ fn at_end<'a>(alloc: Global, verdict: &Verdict, bytes: &'a [u8]) -> Result<Step<
 fn at_stop<'a>(
     alloc: Global,
     floor: &mut Floor,
-    offer: &Offer,
+    given: &Selectable,
     bytes: &'a [u8],
-) -> Result<Step<'a>, Memory>
+) -> Result<NextLine<'a>, Memory>
     requires rest { floor.old.phase ≡ phase.Rest }
-    requires offers { Offers floor.old offer.now }
-    ensures stops { IfOk result (StopStep floor.old offer.now bytes.now) }
+    requires open { IsOpenTo floor.old given.now }
+    ensures stops { IfOk result (StopNext floor.old given.now bytes.now) }
     ensures same { floor.new ≡ floor.old }
 {
-    for event in &offer.events {
-        if let Some(rest) = behind_stop(alloc, floor, event, offer.place, bytes)? {
-            return Ok(Step::Ended(rest));
+    for event in &given.events {
+        if let Some(rest) = behind_stop(alloc, floor, event, given.place, bytes)? {
+            return Ok(NextLine::Ended(rest));
         }
     }
-    Ok(Step::Wrong)
+    Ok(NextLine::Wrong)
 }
 
 /// Where one of these events may come.
 fn when_open<'a>(
     alloc: Global,
     floor: &mut Floor,
-    offer: &Offer,
-    head: &Head<'a>,
+    given: &Selectable,
+    claim: &Claim<'a>,
     bytes: &'a [u8],
-) -> Result<Step<'a>, Memory>
+) -> Result<NextLine<'a>, Memory>
     requires rest { floor.old.phase ≡ phase.Rest }
     requires whole { floor.old.broken ≡ false }
-    requires offers { Offers floor.old offer.now }
-    requires head { HeadAs (line_in bytes.now) head.now }
-    ensures { IfOk result (λ x. StepAs floor.old bytes.now x floor.new) }
+    requires open { IsOpenTo floor.old given.now }
+    requires claim { ClaimAs (line_in bytes.now) claim.now }
+    ensures { IfOk result (λ x. NextAs floor.old bytes.now x floor.new) }
 {
-    match head.event_from(offer.place) {
-        None => at_stop(alloc, floor, offer, bytes),
-        Some((event, rest)) if offer.has(event) => go(alloc, floor, event, offer.place, rest),
-        Some(_) => Ok(Step::Wrong),
+    match claim.event_from(given.place) {
+        None => at_stop(alloc, floor, given, bytes),
+        Some((event, rest)) if given.has(event) => go(alloc, floor, event, given.place, rest),
+        Some(_) => Ok(NextLine::Wrong),
     }
 }
 
 /// What the next line is, where nobody is to be run and all lines that are due were there.
-pub(crate) fn take_step<'a>(
+pub(crate) fn read_next<'a>(
     alloc: Global,
     floor: &mut Floor,
     due: &Due,
-    head: &Head<'a>,
+    claim: &Claim<'a>,
     bytes: &'a [u8],
-) -> Result<Step<'a>, Memory>
+) -> Result<NextLine<'a>, Memory>
     requires idle { is_idle floor.old.phase ≡ true }
     requires whole { floor.old.broken ≡ false }
     requires due { DueAs (due_on floor.old) floor.old.pair.stand.queue due.now }
-    requires head { HeadAs (line_in bytes.now) head.now }
-    ensures { IfOk result (λ x. StepAs floor.old bytes.now x floor.new) }
+    requires claim { ClaimAs (line_in bytes.now) claim.now }
+    ensures { IfOk result (λ x. NextAs floor.old bytes.now x floor.new) }
 {
     // For the proof: what the floor keeps.
     floor.keeps();
     match due {
         Due::Ends(verdict) | Due::Idles(verdict) => at_end(alloc, verdict, bytes),
-        Due::Goes(offer) => when_open(alloc, floor, offer, head, bytes),
+        Due::Goes(given) => when_open(alloc, floor, given, claim, bytes),
     }
 }
