@@ -82,7 +82,7 @@ rested e f g whole made said lines bytes settles code options broken none stands
 
 -- a line that is due is not there
 pub other : (g : PlainFloor) (whole : List ℕ) (made said : ℕ) (lines : List Line) (bytes left : List ℕ) (place number : ℕ) (line : Line) (a : Answer) (r : Rested g whole made said lines bytes) (d : DiffersAt lines bytes left place) → line ≡ d.line →
-    ((later : List Line) → a ≡ No number (reason_of (code_on g) g.options (r.pair).stand (line ∷ later) (line_in left))) → number ≡ min (min (min (said + place) (2 ^ 32 - 1) + 1) (2 ^ 32 - 1)) (2 ^ 32 - 1) →
+    ((later : List Line) → a ≡ No number (reason_of (code_on g) g.options (r.pair).stand (line ∷ later) (line_in left))) → number ≡ min (min (said + place) (2 ^ 32 - 1) + 1) (2 ^ 32 - 1) →
     IsAudit (code_on g) g.options whole a
 other g whole made said lines bytes left place number line a r d same told count =
     let l = code_on g in

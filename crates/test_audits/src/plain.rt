@@ -16,6 +16,7 @@ pub fn wrong_of_one(right: &[&str], lines: &[&str]) -> Option<usize> {
 }
 
 /// Where the script of two that go on their own stands.
+#[derive(Drop)]
 pub struct Two {
     /// How many events of the first came, and of the second.
     pub came: (u32, u32),
