@@ -9,12 +9,12 @@ use Rattle.bp_log.specs.Texts.{whole_line}
 use Rattle.bp_log.specs.declared.trace.Line.{Line}
 use Rattle.bp_log.specs.declared.trace.Line.TheVariants as trace
 use Rattle.bp_log.specs.declared.verdict.Verdict.{Verdict}
-use Rattle.bp_run.specs.Settling.{Entry, Pair}
+use Rattle.bp_run.specs.Settling.{Pair}
 use Rattle.bp_run.specs.Story.{line_of_choice}
 use Rattle.bp_reading.specs.Words.{behind}
 use Rattle.bp_floor.specs.declared.went.Went.{Went}
 use Rattle.bp_floor.specs.declared.went.Went.TheVariants.{Moved as WentOn, Stopped}
-use Rattle.bp_floor.specs.Floors.{PlainFloor, StandsFor, GoesFrom, IsMoved, code_on, phase_at, stop_of}
+use Rattle.bp_floor.specs.Floors.{PlainFloor, StandsFor, GoesFrom, IsMoved, code_on, stop_of}
 use Rattle.bp_arbiter.specs.Arbiters.{is_lent}
 use Rattle.bp_arbiter.proofs.Calls.{calls_stepped}
 use Rattle.bp_free.specs.Due as free
@@ -34,19 +34,15 @@ use Rattle.bp_audit.specs.Standing.{IsAt}
 use Rattle.bp_audit.specs.NextLines.{GoesOn, IsWrong, MovesAs, OneStops, Leads, NextAs, StopsNot, StopsThere, StopsWith, StopNext, VerdictAs, WentAs}
 use Rattle.bp_audit.proofs.Alike.{stop_on}
 use Rattle.bp_audit.proofs.Dues.{placed_among_given, placed}
+use Rattle.bp_audit.proofs.Returning.{unlent_phase}
 use Rattle.bp_audit.proofs.Saying.{begins_at, claimed, not_at, not_both, said}
 
 -- ---- going on
 
-unlent_at : (v : Option Verdict) (ns : List (Entry Origin)) → is_lent (phase_at v ns) ≡ false
-unlent_at (Some v) ns = refl
-unlent_at None [] = refl
-unlent_at None (n ∷ ns) = refl
-
 pub went_on : (f g : PlainFloor) (e : PlainEvent) (place : Option ℕ) → IsMoved f e place g → g.broken ≡ false → ((taken : List Line) (p : Pair Origin) → StandsFor f taken p → GoesFrom (code_on f) taken p e place WentOn g) → GoesOn f e place g
 went_on f g e place m whole goes = record {
   free = m.stop_is;
-  unlent = ap is_lent m.phase_is ∙ unlent_at g.pair.stand.verdict g.pair.entries;
+  unlent = ap is_lent m.phase_is ∙ unlent_phase g.pair;
   steps = λ taken p at.
       let q = goes taken p at.stands in
       record {
