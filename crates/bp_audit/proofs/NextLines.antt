@@ -1,9 +1,12 @@
 -- The next line, where a floor rests.
-use Rattle.std.proofs.Common.{◌≡◌, ◌⊎◌, inl, inr, ℕ, Bool, true, false, List, [], ◌∷◌, Option, Some, None, Ok, refl, sym, ap, ◌∙◌, subst}
+use Rattle.std.proofs.Common.{◌≡◌, ◌⊎◌, inl, inr, ℕ, suc, ◌<◌, Bool, true, false, List, [], ◌∷◌, length, Option, Some, None, Result, Ok, Err, refl, sym, ap, ◌∙◌, subst, arith, slice_index_or}
+use Rattle.std.specs.Prelude.{IfOk}
 use Rattle.std.specs.List.{list_any}
-use Rattle.std.proofs.lemmas.Bool.{false≢true}
+use Rattle.std.proofs.lemmas.Bool.{false≢true, or_cases}
+use Rattle.std.proofs.lemmas.List.Folds.{list_any_at}
 use Rattle.std.proofs.lemmas.Option.{same_Some, none-some}
 use Rattle.js_data.specs.Event.{PlainEvent, IsEvent, same_event}
+use Rattle.js_data.proofs.SameEvent.{same_event-self, same_event-sound}
 use Rattle.js_meaning.specs.Bodies.{Origin}
 use Rattle.bp_log.specs.Texts.{whole_line}
 use Rattle.bp_log.specs.declared.trace.Line.{Line}
@@ -60,6 +63,21 @@ stops_not f e bytes h = λ v k. absurd (none-some _ (h ∙ k))
 pub stops_with : (f : PlainFloor) (e : PlainEvent) (v : Verdict) (bytes : List ℕ) (rest : Option (List ℕ)) → Some v ≡ stop_of f e → rest ≡ behind (whole_line (trace.Verdict v)) bytes → StopsWith f e bytes rest
 stops_with f e v bytes (Some rest) h k = record { verdict = v; stops = sym h; line = begins_at (trace.Verdict v) bytes rest (sym k) }
 stops_with f e v bytes None h k = λ w m. subst (λ (x : Verdict). IsNot (trace.Verdict x) bytes) (same_Some v w (h ∙ m)) (not_at (trace.Verdict v) bytes (sym k))
+
+at_some : (e : PlainEvent) (es : List PlainEvent) → list_any (same_event e) es ≡ true → (k : ℕ) × (k < length es) × ((d : PlainEvent) → slice_index_or es k d ≡ e)
+at_some e [] h = absurd (false≢true h)
+at_some e (c ∷ cs) h = elim (or_cases (same_event e c) (list_any (same_event e) cs) h) [
+  | inl here ↦ (0, omega arith, λ d. sym (same_event-sound e c here))
+  | inr there ↦ let r = at_some e cs there in let low = r.1 in (suc r.0, omega (arith, low), λ d. r.2 d)
+]
+
+-- none of these events stops the run with a verdict that is there
+pub none_stops : (f : PlainFloor) (es : List PlainEvent) (bytes : List ℕ) → ((k : ℕ) (d : PlainEvent) → k < length es → StopsNot f (slice_index_or es k d) bytes) → (e : PlainEvent) → list_any (same_event e) es ≡ true → StopsNot f e bytes
+none_stops f es bytes h e a = let r = at_some e es a in subst (λ (x : PlainEvent). StopsNot f x bytes) (r.2 e) (h r.0 e r.1)
+
+-- an element is among them
+pub is_there : (es : List PlainEvent) (i : ℕ) (x : PlainEvent) → i < length es → x ≡ slice_index_or es i x → list_any (same_event x) es ≡ true
+is_there es i x low is = list_any_at (same_event x) es i x low (ap (same_event x) (sym is) ∙ same_event-self x)
 
 -- ---- only a verdict may come
 
@@ -159,3 +177,18 @@ module _ (f : PlainFloor) (given : Selectable) (bytes : List ℕ) (claim : Claim
 
   pub no_event_next : (e : PlainEvent) (rest : List ℕ) → claimed_from claim given.place ≡ Some (e, rest) → list_any (same_event e) given.events.items ≡ false → NextAs f bytes Wrong f
   no_event_next e rest k n = (wrong_said e rest k (λ b t. absurd (false≢true (sym n ∙ b))), refl)
+
+  -- ---- the same of what calls answer
+
+  pub stop_answer : {E : Type 0} (r : Result NextLine E) (g : PlainFloor) → claimed_from claim given.place ≡ None → g ≡ f → IfOk r (StopNext f given bytes) → IfOk r (λ x. NextAs f bytes x g)
+  stop_answer {E} (Ok x) g k e s = subst (λ (y : PlainFloor). NextAs f bytes x y) (sym e) (stop_next x k s)
+  stop_answer {E} (Err y) g k e s = tt
+
+  pub event_answer : {E : Type 0} (r : Result NextLine E) (e : PlainEvent) (rest : List ℕ) (g : PlainFloor) → claimed_from claim given.place ≡ Some (e, rest) → list_any (same_event e) given.events.items ≡ true →
+      IfOk r (λ x. WentAs f e given.place rest x g) → IfOk r (λ x. NextAs f bytes x g)
+  event_answer {E} (Ok x) e rest g k a s = event_next e rest x g k a s
+  event_answer {E} (Err y) e rest g k a s = tt
+
+pub verdict_answer : {E : Type 0} (r : Result NextLine E) (f : PlainFloor) (v : Verdict) (bytes : List ℕ) → (due_on f ≡ free.Ends v) ⊎ (due_on f ≡ free.Idles v) → IfOk r (VerdictAs v bytes) → IfOk r (λ x. NextAs f bytes x f)
+verdict_answer {E} (Ok x) f v bytes h k = verdict_next f v bytes x h k
+verdict_answer {E} (Err y) f v bytes h k = tt

@@ -122,11 +122,13 @@ fn when_open<'a>(
     requires claim { ClaimAs (line_in bytes.now) claim.now }
     ensures { IfOk result (λ x. NextAs floor.old bytes.now x floor.new) }
 {
-    match claim.event_from(given.place) {
-        None => at_stop(alloc, floor, given, bytes),
-        Some((event, rest)) if given.has(event) => go(alloc, floor, event, given.place, rest),
-        Some(_) => Ok(NextLine::Wrong),
+    let Some((event, rest)) = claim.event_from(given.place) else {
+        return at_stop(alloc, floor, given, bytes);
+    };
+    if !given.has(event) {
+        return Ok(NextLine::Wrong);
     }
+    go(alloc, floor, event, given.place, rest)
 }
 
 /// What the next line is, where nobody is to be run and all lines that are due were there.
@@ -146,7 +148,8 @@ pub(crate) fn read_next<'a>(
     // For the proof: what the floor keeps.
     floor.keeps();
     match due {
-        Due::Ends(verdict) | Due::Idles(verdict) => at_end(alloc, verdict, bytes),
+        Due::Ends(verdict) => at_end(alloc, verdict, bytes),
+        Due::Idles(verdict) => at_end(alloc, verdict, bytes),
         Due::Goes(given) => when_open(alloc, floor, given, claim, bytes),
     }
 }

@@ -29,12 +29,7 @@ impl Selectable {
     pub(crate) fn has(&self, event: &Event) -> bool
         ensures { result ≡ list_any (same_event event.now) self.now.events.items }
     {
-        for other in &self.events {
-            if event.same(other) {
-                return true;
-            }
-        }
-        false
+        self.events.iter().any(|known| event.same(known))
     }
 }
 
