@@ -1,6 +1,6 @@
 -- What may come on a floor, from what the floor answers.
 use Rattle.std.proofs.Common.{◌≡◌, ◌⊎◌, inl, inr, ℕ, ◌<◌, ◌==◌, ◌||◌, ◌&&◌, Bool, true, false, List, [], ◌∷◌, length, map, Option, Some, None, Result, Ok, Err, refl, sym, ap, ◌∙◌, subst, slice_get, arith, if◌then◌else◌}
-use Rattle.std.specs.Prelude.{option_and_then, is_some}
+use Rattle.std.specs.Prelude.{IfSome, option_and_then, is_some}
 use Rattle.std.specs.List.{list_any, All}
 use Rattle.std.proofs.lemmas.Bool.{false≢true}
 use Rattle.std.proofs.lemmas.Option.{same_Some, none-some}
@@ -27,9 +27,10 @@ use Rattle.bp_select.specs.Answers.{FaultAs}
 use Rattle.bp_floor.specs.declared.phase.Phase.{Phase}
 use Rattle.bp_floor.specs.declared.phase.Phase.TheVariants.{Ready, Lent, Rest, Over}
 use Rattle.bp_floor.specs.Floors.{PlainFloor, IsPhased, IsAmong, CanGo, code_on, is_idle, not_lent, phase_at, told_verdict}
+use Rattle.bp_floor.proofs.Behind.{enabled_within}
 use Rattle.bp_arbiter.proofs.Choices.{fault_below}
 use Rattle.bp_free.specs.Due as free
-use Rattle.bp_free.specs.Due.{due, due_among, due_asked, due_unless}
+use Rattle.bp_free.specs.Due.{due, due_among, due_asked, due_open, due_unless}
 use Rattle.bp_free.specs.Free.{place_among, place_in}
 use Rattle.bp_free.specs.Nexts.{AreReal}
 use Rattle.bp_free.specs.Reasons.{is_at, is_first_queued}
@@ -37,7 +38,7 @@ use Rattle.bp_free.proofs.Blockers.{inner_at}
 use Rattle.bp_free.proofs.Choosing.{if_any, at_place}
 use Rattle.bp_free.proofs.Open.{inner_of, is_open}
 use Rattle.bp_audit.specs.declared.resting.Selectable.{Selectable}
-use Rattle.bp_audit.specs.Dues.{IsSelectable, IsMadeOf, IsOfQueue, IsOfRequests, IsOpenTo, due_on}
+use Rattle.bp_audit.specs.Dues.{IsSelectable, IsOpenTo, due_on}
 
 -- ---- phases
 
@@ -146,51 +147,46 @@ placed_by_queue : (inner : List PlainEvent) (outer : Option ℕ) (queue : List P
     place_among inner outer queue e ≡ (if list_any (same_event e) (f ∷ []) then Some (Some i) else None)
 placed_by_queue inner outer queue e f i h k m = rw (h, k, m) (or_none (same_event e f) i)
 
-requests_given : {S : Type 0} (has : Has S) (ts : List (Live S)) (queue : List PlainEvent) (x : Enabled) (given : Selectable) → selectable has ts queue ≡ Ok x → (x.inner ≡ [] → ⊥) → IsOfRequests x given → All IsEvent given.events.items →
-    IsSelectable x queue given
-requests_given has ts queue x given h n q real = record {
+pub of_requests : {S : Type 0} (has : Has S) (ts : List (Live S)) (queue : List PlainEvent) (x : Enabled) (given : Selectable) → selectable has ts queue ≡ Ok x → (x.inner ≡ [] → ⊥) → given.events.items ≡ x.inner → given.place ≡ None →
+    All IsEvent given.events.items → IsSelectable x queue given
+of_requests has ts queue x given h n events place real = record {
   placed = λ e.
-      placed_by_request x.inner x.outer queue e n ∙ ap (λ (es : List PlainEvent). if list_any (same_event e) es then Some None else None) (sym q.events)
-      ∙ ap (λ (p : Option ℕ). if list_any (same_event e) given.events.items then Some p else None) (sym q.place);
+      placed_by_request x.inner x.outer queue e n ∙ ap (λ (es : List PlainEvent). if list_any (same_event e) es then Some None else None) (sym events)
+      ∙ ap (λ (p : Option ℕ). if list_any (same_event e) given.events.items then Some p else None) (sym place);
   real = record {
-    inner = subst (λ (es : List PlainEvent). All IsEvent es) q.events real;
+    inner = subst (λ (es : List PlainEvent). All IsEvent es) events real;
     outer = λ i e k m. absurd (none-some _ (sym (only_inner has ts queue x h n) ∙ k));
   };
 }
 
-queue_given : (queue : List PlainEvent) (x : Enabled) (given : Selectable) → IsOfQueue x queue given → All IsEvent given.events.items → IsSelectable x queue given
-queue_given queue x given q real = record {
+pub of_the_queue : (queue : List PlainEvent) (i : ℕ) (f : PlainEvent) (given : Selectable) → given.events.items ≡ f ∷ [] → given.place ≡ Some i → slice_get queue i ≡ Some f → All IsEvent given.events.items →
+    IsSelectable (record { inner = []; outer = Some i }) queue given
+of_the_queue queue i f given events place there real = record {
   placed = λ e.
-      placed_by_queue x.inner x.outer queue e q.event q.index q.none q.first q.there
-      ∙ ap (λ (es : List PlainEvent). if list_any (same_event e) es then Some (Some q.index) else None) (sym q.events)
-      ∙ ap (λ (p : Option ℕ). if list_any (same_event e) given.events.items then Some p else None) (sym q.place);
+      placed_by_queue [] (Some i) queue e f i refl refl there ∙ ap (λ (es : List PlainEvent). if list_any (same_event e) es then Some (Some i) else None) (sym events)
+      ∙ ap (λ (p : Option ℕ). if list_any (same_event e) given.events.items then Some p else None) (sym place);
   real = record {
-    inner = subst (λ (es : List PlainEvent). All IsEvent es) (sym q.none) (λ k d w. absurd (omega (arith, w)));
-    outer = λ i e k m.
-        let all : All IsEvent (q.event ∷ []) = subst (λ (es : List PlainEvent). All IsEvent es) q.events real in
-        let at : i ≡ q.index = same_Some i q.index (sym k ∙ q.first) in
-        let same : q.event ≡ e = same_Some q.event e (sym q.there ∙ ap (slice_get queue) (sym at) ∙ m) in
-        subst IsEvent same (all 0 q.event (omega arith));
+    inner = λ k d w. absurd (omega (arith, w));
+    outer = λ j e k m.
+        let all : All IsEvent (f ∷ []) = subst (λ (es : List PlainEvent). All IsEvent es) events real in
+        let at : i ≡ j = same_Some i j k in
+        let same : f ≡ e = same_Some f e (sym there ∙ ap (slice_get queue) at ∙ m) in
+        subst IsEvent same (all 0 f (omega arith));
   };
 }
 
-pub given_is : {S : Type 0} (has : Has S) (ts : List (Live S)) (queue : List PlainEvent) (x : Enabled) (given : Selectable) → selectable has ts queue ≡ Ok x → (x.inner ≡ [] → x.outer ≡ None → ⊥) → IsMadeOf x queue given →
-    All IsEvent given.events.items → IsSelectable x queue given
-given_is has ts queue x given h n (inl q) real = requests_given has ts queue x given h (λ e. n e (q.some e)) q real
-given_is has ts queue x given h n (inr q) real = queue_given queue x given q real
+-- the place that can be selected is one of the queue
+pub queue_within : {S : Type 0} (has : Has S) (ts : List (Live S)) (queue : List PlainEvent) (outer : Option ℕ) (i : ℕ) → outer ≡ Some i → selectable has ts queue ≡ Ok (record { inner = []; outer = outer }) → i < length queue
+queue_within has ts queue outer i e h =
+    subst (λ (o : Option ℕ). IfSome o (λ p. p < length queue)) e (enabled_within has ts queue (record { inner = []; outer = outer }) h)
 
--- where something can be selected and the steps were not made
-pub goes_at : (o : PlainOptions) (s : Stand Origin) (inner : List PlainEvent) (outer : Option ℕ) → (inner ≡ [] → outer ≡ None → ⊥) → (s.transitions == o.steps) ≡ false →
-    due_among o s inner outer ≡ free.Goes (record { inner = inner; outer = outer })
-goes_at o s [] None n k = absurd (n refl refl)
-goes_at o s [] (Some i) n k = rw k refl
-goes_at o s (e ∷ es) outer n k = rw k refl
+-- where something is requested and not blocked
+pub open_by_request : (o : PlainOptions) (s : Stand Origin) (inner : List PlainEvent) (outer : Option ℕ) → (inner ≡ [] → ⊥) → due_among o s inner outer ≡ due_open o s (record { inner = inner; outer = outer })
+open_by_request o s [] outer n = absurd (n refl)
+open_by_request o s (e ∷ es) outer n = refl
 
-pub steps_at : (o : PlainOptions) (s : Stand Origin) (inner : List PlainEvent) (outer : Option ℕ) → (inner ≡ [] → outer ≡ None → ⊥) → (s.transitions == o.steps) ≡ true →
-    due_among o s inner outer ≡ free.Ends (verdict.Steps o.steps)
-steps_at o s [] None n k = absurd (n refl refl)
-steps_at o s [] (Some i) n k = rw k refl
-steps_at o s (e ∷ es) outer n k = rw k refl
+pub open_if : (o : PlainOptions) (s : Stand Origin) (x : Enabled) (b : Bool) → (s.transitions == o.steps) ≡ b → due_open o s x ≡ (if b then free.Ends (verdict.Steps o.steps) else free.Goes x)
+open_if o s x b h = ap (λ (c : Bool). if c then free.Ends (verdict.Steps o.steps) else free.Goes x) h
 
 -- ---- a given event
 

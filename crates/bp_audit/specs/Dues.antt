@@ -1,5 +1,5 @@
 -- What may come, as code finds it.
-use Rattle.std.specs.Prelude.{◌≡◌, ◌⊎◌, ℕ, List, [], ◌∷◌, Option, Some, None, slice_get, if◌then◌else◌}
+use Rattle.std.specs.Prelude.{◌≡◌, List, Some, None, if◌then◌else◌}
 use Rattle.std.specs.List.{list_any}
 use Rattle.js_data.specs.Event.{PlainEvent, same_event}
 use Rattle.bp_run.specs.Selecting.{Enabled}
@@ -14,25 +14,6 @@ use Rattle.bp_audit.specs.declared.resting.Due.TheVariants as due
 -- what may come on a floor
 abbrev pub due_on : PlainFloor → free.Due
 due_on f = free.due (code_on f) f.options f.pair.stand
-
--- the requested events that can be selected
-pub record IsOfRequests (x : Enabled) (given : Selectable) : Type 0 where
-  pub events : given.events.items ≡ x.inner
-  pub place : given.place ≡ None
-  pub some : x.inner ≡ [] → x.outer ≡ None
-
--- the one event of the queue that can be selected
-pub record IsOfQueue (x : Enabled) (queue : List PlainEvent) (given : Selectable) : Type 0 where
-  pub event : PlainEvent
-  pub index : ℕ
-  pub events : given.events.items ≡ event ∷ []
-  pub place : given.place ≡ Some index
-  pub none : x.inner ≡ []
-  pub first : x.outer ≡ Some index
-  pub there : slice_get queue index ≡ Some event
-
-abbrev pub IsMadeOf : Enabled → List PlainEvent → Selectable → Type 0
-IsMadeOf x queue given = IsOfRequests x given ⊎ IsOfQueue x queue given
 
 -- the events that can be selected, all from the place that is given
 pub record IsSelectable (x : Enabled) (queue : List PlainEvent) (given : Selectable) : Type 0 where

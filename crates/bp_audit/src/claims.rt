@@ -30,9 +30,15 @@ impl<'a> Claim<'a> {
         ensures { option_map (λ p. (p.0.now, p.1.now)) result ≡ claimed_from self.now place }
     {
         match self {
-            Claim::Event(event, rest) if place.is_none() => Some((event, *rest)),
-            Claim::External(event, rest) if place.is_some() => Some((event, *rest)),
-            _ => None,
+            Claim::Event(event, rest) => match place {
+                None => Some((event, *rest)),
+                Some(_) => None,
+            },
+            Claim::External(event, rest) => match place {
+                None => None,
+                Some(_) => Some((event, *rest)),
+            },
+            Claim::Cut | Claim::TooLong | Claim::Other => None,
         }
     }
 }

@@ -1,12 +1,12 @@
 //! What may come where a floor rests.
-ghost use Rattle.std.specs.Prelude.{◌≡◌, ◌<◌, true, false, Ok, IfOk, IfSome, length};
+ghost use Rattle.std.specs.Prelude.{◌≡◌, [], true, false, Ok, IfOk};
 ghost use Rattle.std.specs.List.{All, list_any};
 ghost use Rattle.js_data.specs.Event.{IsEvent, same_event};
-ghost use Rattle.bp_run.specs.Selecting.{selectable};
+ghost use Rattle.bp_run.specs.Selecting.{Enabled as CanBeSelected, selectable};
 ghost use Rattle.bp_select.specs.Answers.{enabled_of};
 ghost use Rattle.bp_floor.specs.Floors.{has_on, live_on, is_idle};
-ghost use Rattle.bp_free.specs.Due.{due_among, idle_verdict};
-ghost use Rattle.bp_audit.specs.Dues.{DueAs, IsMadeOf, due_on};
+ghost use Rattle.bp_free.specs.Due.{due_among, due_open, idle_verdict};
+ghost use Rattle.bp_audit.specs.Dues.{DueAs, IsSelectable, due_on};
 
 use bp_floor::Floor;
 use bp_log::limits::MOST_WAITING;
@@ -64,45 +64,53 @@ fn verdict_when_idle(floor: &Floor) -> Verdict
     }
 }
 
-/// The events that may come where this can be selected: all that are requested, or else the one of
-/// the queue.
-fn selectable_of(alloc: Global, floor: &Floor, enabled: Enabled) -> Result<Selectable, Memory>
-    requires within { IfSome enabled.outer (λ i. i < length floor.now.pair.stand.queue) }
-    ensures { IfOk result (IsMadeOf (enabled_of enabled) floor.now.pair.stand.queue) }
+/// These events, or the limit of steps where so many were made.
+fn unless_made(floor: &Floor, given: Selectable) -> Due
+    ensures { (x : CanBeSelected) → IsSelectable x floor.now.pair.stand.queue given →
+        DueAs (due_open floor.now.options floor.now.pair.stand x) floor.now.pair.stand.queue result }
 {
-    match enabled.outer {
-        Some(place) if enabled.inner.is_empty() => {
-            let mut events = Vec::new(alloc);
-            events.push(floor.queue()[place as usize].copy()?)?;
-            Ok(Selectable {
-                events,
-                place: Some(place),
-            })
-        }
-        _ => Ok(Selectable {
-            events: enabled.inner,
-            place: None,
-        }),
+    let steps = floor.options().steps();
+    if floor.transitions() == steps {
+        Due::Ends(Verdict::Steps(steps))
+    } else {
+        Due::Goes(given)
     }
+}
+
+/// What may come where no requested event can be selected, but this place of the queue.
+fn of_queue(alloc: Global, floor: &Floor, place: Option<u32>) -> Result<Due, Memory>
+    requires { selectable (has_on floor.now) (live_on floor.now) floor.now.pair.stand.queue
+        ≡ Ok (record { inner = []; outer = place }) }
+    ensures { IfOk result (DueAs (due_among floor.now.options floor.now.pair.stand [] place)
+        floor.now.pair.stand.queue) }
+{
+    let Some(place) = place else {
+        return Ok(Due::Idles(verdict_when_idle(floor)));
+    };
+    let mut events = Vec::new(alloc);
+    events.push(floor.queue()[place as usize].copy()?)?;
+    are_events(events.as_slice());
+    let place = Some(place);
+    Ok(unless_made(floor, Selectable { events, place }))
 }
 
 /// What may come where this can be selected.
 fn among(alloc: Global, floor: &Floor, enabled: Enabled) -> Result<Due, Memory>
-    requires enabled { selectable (has_on floor.now) (live_on floor.now) floor.now.pair.stand.queue
+    requires { selectable (has_on floor.now) (live_on floor.now) floor.now.pair.stand.queue
         ≡ Ok (enabled_of enabled) }
     ensures { IfOk result (DueAs (due_among floor.now.options floor.now.pair.stand
         enabled.inner.items enabled.outer) floor.now.pair.stand.queue) }
 {
-    if enabled.inner.is_empty() && enabled.outer.is_none() {
-        return Ok(Due::Idles(verdict_when_idle(floor)));
+    let Enabled { inner, outer } = enabled;
+    if inner.is_empty() {
+        return of_queue(alloc, floor, outer);
     }
-    let steps = floor.options().steps();
-    if floor.transitions() == steps {
-        return Ok(Due::Ends(Verdict::Steps(steps)));
-    }
-    let given = selectable_of(alloc, floor, enabled)?;
-    are_events(given.events.as_slice());
-    Ok(Due::Goes(given))
+    are_events(inner.as_slice());
+    let given = Selectable {
+        events: inner,
+        place: None,
+    };
+    Ok(unless_made(floor, given))
 }
 
 /// What may come.
