@@ -122,6 +122,9 @@ blocker_within l s e n h = blocker_below l.has (live l s) e n 0 (length s.thread
 
 -- ---- offers
 
+outer_in : (x : Enabled) (es : List PlainEvent) → ◌≡◌ {A = Asked Enabled} (Ok (record { inner = es; outer = None })) (Ok x) → x.outer ≡ None
+outer_in x es h = ap (λ (r : Asked Enabled). elim r [ Ok y ↦ y.outer | Err f ↦ None ]) (sym h)
+
 -- where something is requested and not blocked, the queue is not asked
 only_inner_at : {S : Type 0} (has : Has S) (ts : List (Live S)) (queue : List PlainEvent) (x : Enabled) (y : Asked (List PlainEvent)) → or_queued has ts queue y ≡ Ok x → (x.inner ≡ [] → ⊥) → x.outer ≡ None
 only_inner_at has ts queue x (Err f) h n = absurd (cc)
@@ -129,13 +132,17 @@ only_inner_at has ts queue x (Ok []) h n = absurd (n (sym (same_list (inner_at h
   where
     same_list : ◌≡◌ {A = Asked (List PlainEvent)} (Ok []) (Ok x.inner) → [] ≡ x.inner
     same_list k = cc
-only_inner_at has ts queue x (Ok (e ∷ es)) h n = let q : record { inner = e ∷ es; outer = None } ≡ x = cc in ap (λ (y : Enabled). y.outer) (sym q)
+only_inner_at has ts queue x (Ok (e ∷ es)) h n = outer_in x (e ∷ es) h
 
 only_inner : {S : Type 0} (has : Has S) (ts : List (Live S)) (queue : List PlainEvent) (x : Enabled) → selectable has ts queue ≡ Ok x → (x.inner ≡ [] → ⊥) → x.outer ≡ None
 unfolding selectable
 only_inner has ts queue x h n = only_inner_at has ts queue x (unblocked has ts (candidates ts)) h n
 
-placed_by_request : (inner : List PlainEvent) (outer : Option ℕ) (queue : List PlainEvent) (e : PlainEvent) → (inner ≡ [] → ⊥) → place_among inner outer queue e ≡ (if list_any (same_event e) inner then Some None else None)
+-- these events come from this place
+abbrev placing : List PlainEvent → PlainEvent → Option ℕ → Option (Option ℕ)
+placing es e p = if list_any (same_event e) es then Some p else None
+
+placed_by_request : (inner : List PlainEvent) (outer : Option ℕ) (queue : List PlainEvent) (e : PlainEvent) → (inner ≡ [] → ⊥) → place_among inner outer queue e ≡ placing inner e None
 placed_by_request [] outer queue e n = absurd (n refl)
 placed_by_request (c ∷ cs) outer queue e n = refl
 
@@ -144,15 +151,15 @@ or_none true i = refl
 or_none false i = refl
 
 placed_by_queue : (inner : List PlainEvent) (outer : Option ℕ) (queue : List PlainEvent) (e f : PlainEvent) (i : ℕ) → inner ≡ [] → outer ≡ Some i → slice_get queue i ≡ Some f →
-    place_among inner outer queue e ≡ (if list_any (same_event e) (f ∷ []) then Some (Some i) else None)
+    place_among inner outer queue e ≡ placing (f ∷ []) e (Some i)
 placed_by_queue inner outer queue e f i h k m = rw (h, k, m) (or_none (same_event e f) i)
 
 pub of_requests : {S : Type 0} (has : Has S) (ts : List (Live S)) (queue : List PlainEvent) (x : Enabled) (given : Selectable) → selectable has ts queue ≡ Ok x → (x.inner ≡ [] → ⊥) → given.events.items ≡ x.inner → given.place ≡ None →
     All IsEvent given.events.items → IsSelectable x queue given
 of_requests has ts queue x given h n events place real = record {
   placed = λ e.
-      placed_by_request x.inner x.outer queue e n ∙ ap (λ (es : List PlainEvent). if list_any (same_event e) es then Some None else None) (sym events)
-      ∙ ap (λ (p : Option ℕ). if list_any (same_event e) given.events.items then Some p else None) (sym place);
+      placed_by_request x.inner x.outer queue e n ∙ ap (λ (es : List PlainEvent). placing es e None) (sym events)
+      ∙ ap (λ (p : Option ℕ). placing given.events.items e p) (sym place);
   real = record {
     inner = subst (λ (es : List PlainEvent). All IsEvent es) events real;
     outer = λ i e k m. absurd (none-some _ (sym (only_inner has ts queue x h n) ∙ k));
@@ -163,8 +170,8 @@ pub of_the_queue : (queue : List PlainEvent) (i : ℕ) (f : PlainEvent) (given :
     IsSelectable (record { inner = []; outer = Some i }) queue given
 of_the_queue queue i f given events place there real = record {
   placed = λ e.
-      placed_by_queue [] (Some i) queue e f i refl refl there ∙ ap (λ (es : List PlainEvent). if list_any (same_event e) es then Some (Some i) else None) (sym events)
-      ∙ ap (λ (p : Option ℕ). if list_any (same_event e) given.events.items then Some p else None) (sym place);
+      placed_by_queue [] (Some i) queue e f i refl refl there ∙ ap (λ (es : List PlainEvent). placing es e (Some i)) (sym events)
+      ∙ ap (λ (p : Option ℕ). placing given.events.items e p) (sym place);
   real = record {
     inner = λ k d w. absurd (omega (arith, w));
     outer = λ j e k m.

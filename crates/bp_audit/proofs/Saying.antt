@@ -70,8 +70,11 @@ external_is line e h =
     let c = chained compact_event_at (behind (codes "external ") line) e h in
     behind_spelled (codes "external ") line c.0 c.1 ∙ ap (λ (t : List ℕ). codes "external " ++ t) (compact_is c.0 e c.2)
 
-same_pair : (e f : PlainEvent) (a b : List ℕ) → f ≡ e → a ≡ b → ◌≡◌ {A = Option (PlainEvent × List ℕ)} (Some (f, b)) (Some (e, a))
-same_pair e f a b h k = ap (λ (g : PlainEvent). Some (g, b)) h ∙ ap (λ (t : List ℕ). Some (e, t)) (sym k)
+abbrev coming : PlainEvent → List ℕ → Option (PlainEvent × List ℕ)
+coming e t = Some (e, t)
+
+same_pair : (e f : PlainEvent) (a b : List ℕ) → f ≡ e → a ≡ b → coming f b ≡ coming e a
+same_pair e f a b h k = ap (λ (g : PlainEvent). coming g b) h ∙ ap (λ (t : List ℕ). coming e t) (sym k)
 
 claimed_at : (e : PlainEvent) (place : Option ℕ) (line rest : List ℕ) (claim : Claim) → IsEvent e → ClaimAs (whole line rest) claim → line ≡ line_text (line_of_choice e place) → claimed_from claim place ≡ Some (e, rest)
 claimed_at e place line rest Cut r h k = absurd h
@@ -93,7 +96,7 @@ said_whole : (bytes line left : List ℕ) (d : Line) (rest : List ℕ) → line_
 said_whole bytes line left d rest h k m =
     line_spelled bytes MOST_TRACE_LINE line left h ∙ ap (λ (t : List ℕ). t ++ 10 ∷ left) k ∙ ap (λ (t : List ℕ). line_text d ++ 10 ∷ t) m
 
-same_event_there : (f e : PlainEvent) (t rest : List ℕ) → ◌≡◌ {A = Option (PlainEvent × List ℕ)} (Some (f, t)) (Some (e, rest)) → (f ≡ e) × (t ≡ rest)
+same_event_there : (f e : PlainEvent) (t rest : List ℕ) → coming f t ≡ coming e rest → (f ≡ e) × (t ≡ rest)
 same_event_there f e t rest h =
     let q : (f, t) ≡ (e, rest) = same_Some (f, t) (e, rest) h in
     (ap (λ (p : PlainEvent × List ℕ). p.0) q, ap (λ (p : PlainEvent × List ℕ). p.1) q)
