@@ -139,11 +139,11 @@ module _ (f : PlainFloor) (given : Selectable) (bytes : List ℕ) (claim : Claim
   -- the line says that an event comes that can't, or that stops the run
   pub wrong_said : (e : PlainEvent) (rest : List ℕ) → claimed_from claim given.place ≡ Some (e, rest) → (list_any (same_event e) given.events.items ≡ true → stop_of f e ≡ None → ⊥) → IsWrong f bytes
   wrong_said e rest k n = wrong
-    (λ g more a s m.
-        let q : (e, rest) ≡ (g, more) = same_Some (e, rest) (g, more) (sym k ∙ m) in
-        let same : g ≡ e = ap (λ (p : PlainEvent × List ℕ). p.0) (sym q) in
-        n (subst (λ (x : PlainEvent). list_any (same_event x) given.events.items ≡ true) same a) (subst (λ (x : PlainEvent). stop_of f x ≡ None) same s))
-    (λ v more s b. not_both (code_on f) f.options e given.place v bytes rest more (said e given.place bytes rest claim h k) b)
+      (λ g more a s m.
+      let q : (e, rest) ≡ (g, more) = same_Some (e, rest) (g, more) (sym k ∙ m) in
+      let same : g ≡ e = ap (λ (p : PlainEvent × List ℕ). p.0) (sym q) in
+      n (subst (λ (x : PlainEvent). list_any (same_event x) given.events.items ≡ true) same a) (subst (λ (x : PlainEvent). stop_of f x ≡ None) same s))
+      (λ v more s b. not_both (code_on f) f.options e given.place v bytes rest more (said e given.place bytes rest claim h k) b)
 
   stops_given : (v : Verdict) (more : List ℕ) → ((e : PlainEvent) → list_any (same_event e) given.events.items ≡ true → StopsNot f e bytes) → StopsAt (code_on f) f.pair.stand w.enabled v → Begins bytes (trace.Verdict v) more → ⊥
   stops_given v more n s b =
@@ -153,13 +153,15 @@ module _ (f : PlainFloor) (given : Selectable) (bytes : List ℕ) (claim : Claim
   -- the line is not that of an event, and none stops the run with the verdict that is there
   pub stop_next : (x : NextLine) → claimed_from claim given.place ≡ None → StopNext f given bytes x → NextAs f bytes x f
   stop_next (Moved rest) k s = absurd s
-  stop_next (Ended rest) k s =
-      (record {
-        verdict = (s.stops).verdict;
-        ends = subst (λ (d : free.Due). EndsBy (code_on f) f.pair.stand (s.stops).verdict d) (sym w.goes)
-            (record { event = s.event; place = given.place; placed = placed w.enabled f.pair.stand.queue given s.event w.is s.among; stops = stop_on f s.event ∙ (s.stops).stops });
-        line = (s.stops).line;
-      }, refl)
+  stop_next (Ended rest) k s = (
+    record {
+      verdict = (s.stops).verdict;
+      ends = subst (λ (d : free.Due). EndsBy (code_on f) f.pair.stand (s.stops).verdict d) (sym w.goes)
+          (record { event = s.event; place = given.place; placed = placed w.enabled f.pair.stand.queue given s.event w.is s.among; stops = stop_on f s.event ∙ (s.stops).stops });
+      line = (s.stops).line;
+    },
+    refl,
+  )
   stop_next Wrong k s = (wrong (λ e more a t m. absurd (none-some _ (sym k ∙ m))) (λ v more t b. stops_given v more s t b), refl)
 
   -- it is, and the event is one of these

@@ -30,7 +30,11 @@ pub(crate) enum NextLine<'a> {
 }
 
 /// What is behind the line of this verdict, if it stands there.
-fn behind_verdict<'a>(alloc: Global, verdict: Verdict, bytes: &'a [u8]) -> Result<Option<&'a [u8]>, Memory>
+fn behind_verdict<'a>(
+    alloc: Global,
+    verdict: Verdict,
+    bytes: &'a [u8],
+) -> Result<Option<&'a [u8]>, Memory>
     ensures { IfOk result (λ o. option_map (λ rest. rest.now) o
         ≡ behind (whole_line (trace.Verdict verdict)) bytes.now) }
 {

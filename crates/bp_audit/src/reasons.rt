@@ -85,7 +85,7 @@ pub(crate) fn reason_at_rest(
     requires idle { is_idle floor.old.phase ≡ true }
     requires whole { floor.old.broken ≡ false }
     requires due { DueAs (due_on floor.old) floor.old.pair.stand.queue due }
-    ensures { IfOk result (λ r. (front : heads.Front) → ClaimAs front claim →
+    ensures { IfOk result (λ r. (front : heads.Front) → ClaimAs front claim.entry →
         r ≡ reason_of (code_on floor.old) floor.old.options floor.old.pair.stand [] front) }
 {
     // For the proof: what the floor keeps.

@@ -16,10 +16,10 @@ ghost use Rattle.bp_audit.specs.Rounds.{IsReadTo, RoundAs, answer_behind};
 
 use crate::claims::claim_of;
 use crate::lines::{Front, Passed, front_of, pass};
+use crate::next_lines::{NextLine, read_next};
 use crate::reasons::reason_at_rest;
 use crate::resting::due_of;
 use crate::settling::settle;
-use crate::next_lines::{NextLine, read_next};
 use bp_floor::Floor;
 use bp_free::{Answer, Reason};
 use bp_log::{Line, Lines, Memory, Options};

@@ -35,7 +35,9 @@ fn changed<'a>(
             Change::Swapped if i == place => {
                 new.push(*lines.get(i.saturating_add(1)).unwrap_or(&line))?;
             }
-            Change::Swapped if i > 0 && i - 1 == place => new.push(*lines.get(place).unwrap_or(&line))?,
+            Change::Swapped if i > 0 && i - 1 == place => new.push(
+                *lines.get(place).unwrap_or(&line),
+            )?,
             _ => new.push(line)?,
         }
     }
@@ -50,7 +52,12 @@ fn named(answer: &Answer) -> Option<usize> {
     }
 }
 
-const CHANGES: [Change; 4] = [Change::LeftOut, Change::Doubled, Change::Swapped, Change::Altered];
+const CHANGES: [Change; 4] = [
+    Change::LeftOut,
+    Change::Doubled,
+    Change::Swapped,
+    Change::Altered,
+];
 
 #[test]
 fn of_the_taps(rt: HostRuntime) -> Result<(), Fail> {

@@ -13,12 +13,7 @@ pub fn options(steps: u32) -> Result<Options, Fail> {
 }
 
 /// The answer about these bytes as a trace of the script, which may make this many steps.
-pub fn answer_about(
-    alloc: Global,
-    script: &str,
-    steps: u32,
-    bytes: &[u8],
-) -> Result<Answer, Fail> {
+pub fn answer_about(alloc: Global, script: &str, steps: u32, bytes: &[u8]) -> Result<Answer, Fail> {
     let program = accept(alloc, script.as_bytes())?;
     let mut trace = MemorySource::new(bytes.to_vec(alloc)?, Vec::new(alloc));
     match audit(alloc, program, options(steps)?, &mut trace) {

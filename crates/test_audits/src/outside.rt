@@ -10,14 +10,20 @@ use std::test::Fail;
 #[test]
 fn bytes_that_are_no_text(rt: HostRuntime) -> Result<(), Fail> {
     let alloc = rt.alloc();
-    assert_eq!(rt; told(alloc, TAPS, 1_000, b"\xff\xfe\n")?.as_str(), "no line 1 not here");
+    assert_eq!(rt;
+        told(alloc, TAPS, 1_000, b"\xff\xfe\n")?.as_str(),
+        "no line 1 not here"
+    );
     assert_eq!(rt;
         told(alloc, TAPS, 1_000, b"event [\"\xc3\x28\"]\n")?.as_str(),
         "no line 1 not here"
     );
     let mut trace = trace_of(alloc, TAPS_LINES)?.into_bytes();
     trace.extend_from_slice(b"\x80")?;
-    assert_eq!(rt; told(alloc, TAPS, 1_000, &trace)?.as_str(), "no line 10 cut");
+    assert_eq!(rt;
+        told(alloc, TAPS, 1_000, &trace)?.as_str(),
+        "no line 10 cut"
+    );
     Ok(())
 }
 
@@ -26,12 +32,21 @@ fn bytes_that_are_no_text(rt: HostRuntime) -> Result<(), Fail> {
 fn lines_that_are_too_long(rt: HostRuntime) -> Result<(), Fail> {
     let alloc = rt.alloc();
     let most = "x".repeat(alloc, MOST_TRACE_LINE as usize)?;
-    assert_eq!(rt; told(alloc, TAPS, 1_000, most.as_bytes())?.as_str(), "no line 1 cut");
+    assert_eq!(rt;
+        told(alloc, TAPS, 1_000, most.as_bytes())?.as_str(),
+        "no line 1 cut"
+    );
     let mut more = most.into_bytes();
     more.extend_from_slice(b"x")?;
-    assert_eq!(rt; told(alloc, TAPS, 1_000, &more)?.as_str(), "no line 1 not here");
+    assert_eq!(rt;
+        told(alloc, TAPS, 1_000, &more)?.as_str(),
+        "no line 1 not here"
+    );
     more.extend_from_slice(b"\n")?;
-    assert_eq!(rt; told(alloc, TAPS, 1_000, &more)?.as_str(), "no line 1 not here");
+    assert_eq!(rt;
+        told(alloc, TAPS, 1_000, &more)?.as_str(),
+        "no line 1 not here"
+    );
     Ok(())
 }
 

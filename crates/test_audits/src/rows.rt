@@ -8,7 +8,10 @@ use std::test::Fail;
 fn the_taps(rt: HostRuntime) -> Result<(), Fail> {
     let alloc = rt.alloc();
     let whole = trace_of(alloc, TAPS_LINES)?;
-    assert_eq!(rt; told(alloc, TAPS, 1_000, whole.as_bytes())?.as_str(), "yes 6");
+    assert_eq!(rt;
+        told(alloc, TAPS, 1_000, whole.as_bytes())?.as_str(),
+        "yes 6"
+    );
     let cold = trace_of(alloc, &[r#"event ["cold"]"#])?;
     assert_eq!(rt;
         told(alloc, TAPS, 1_000, cold.as_bytes())?.as_str(),
@@ -21,7 +24,10 @@ fn the_taps(rt: HostRuntime) -> Result<(), Fail> {
     );
     let (_last, front) = TAPS_LINES.split_last().ok_or("no lines")?;
     let cut = trace_of(alloc, front)?;
-    assert_eq!(rt; told(alloc, TAPS, 1_000, cut.as_bytes())?.as_str(), "no line 9 cut");
+    assert_eq!(rt;
+        told(alloc, TAPS, 1_000, cut.as_bytes())?.as_str(),
+        "no line 9 cut"
+    );
     Ok(())
 }
 
@@ -31,7 +37,10 @@ fn one_of_three(rt: HostRuntime) -> Result<(), Fail> {
     let alloc = rt.alloc();
     for name in ["a", "b", "c"] {
         let trace = format!(in alloc; "event [\"{name}\"]\ndone \"A\"\nverdict quiet 1\n")?;
-        assert_eq!(rt; told(alloc, THREE, 1_000, trace.as_bytes())?.as_str(), "yes 1");
+        assert_eq!(rt;
+            told(alloc, THREE, 1_000, trace.as_bytes())?.as_str(),
+            "yes 1"
+        );
     }
     let without = trace_of(alloc, &[r#"event ["c"]"#, "verdict quiet 1"])?;
     assert_eq!(rt;
@@ -54,7 +63,10 @@ fn events_of_the_queue(rt: HostRuntime) -> Result<(), Fail> {
             "verdict quiet 2",
         ],
     )?;
-    assert_eq!(rt; told(alloc, QUEUED, 1_000, right.as_bytes())?.as_str(), "yes 2");
+    assert_eq!(rt;
+        told(alloc, QUEUED, 1_000, right.as_bytes())?.as_str(),
+        "yes 2"
+    );
     let late = trace_of(alloc, &[r#"external ["late"]"#])?;
     assert_eq!(rt;
         told(alloc, QUEUED, 1_000, late.as_bytes())?.as_str(),
@@ -75,7 +87,10 @@ fn as_many_steps_as_may_be(rt: HostRuntime) -> Result<(), Fail> {
     let (tick, tock) = (r#"event ["tick"]"#, r#"event ["tock"]"#);
     let two = trace_of(alloc, &[tick, tock, "verdict limit steps 2"])?;
     assert_eq!(rt; told(alloc, ENDLESS, 2, two.as_bytes())?.as_str(), "yes 2");
-    assert_eq!(rt; told(alloc, ENDLESS, 3, two.as_bytes())?.as_str(), "no line 3 not here");
+    assert_eq!(rt;
+        told(alloc, ENDLESS, 3, two.as_bytes())?.as_str(),
+        "no line 3 not here"
+    );
     let three = trace_of(alloc, &[tick, tock, tock])?;
     assert_eq!(rt;
         told(alloc, ENDLESS, 2, three.as_bytes())?.as_str(),

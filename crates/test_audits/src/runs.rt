@@ -32,8 +32,16 @@ fn printed<R: Threads + Wait + Sync + Clock>(
         return Err(Fail::new("injectors"));
     }
     let parallelism = Parallelism::defaults();
-    let (_report, _back) =
-        Session::run(rt, alloc, program, &header, parallelism, inputs, &mut out, &mut log);
+    let (_report, _back) = Session::run(
+        rt,
+        alloc,
+        program,
+        &header,
+        parallelism,
+        inputs,
+        &mut out,
+        &mut log,
+    );
     let (bytes, _faults) = out.into_parts();
     Ok(String::from_utf8(bytes).ok().ok_or("no text")?)
 }
@@ -52,7 +60,16 @@ fn events_in(trace: &str) -> u64 {
 #[test]
 fn runs_are_traces(rt: HostRuntime) -> Result<(), Fail> {
     let alloc = rt.alloc();
-    for script in [TAPS, THREE, TWO, BLOCKED, QUEUED, INTERRUPTED, BROKEN, ENDLESS] {
+    for script in [
+        TAPS,
+        THREE,
+        TWO,
+        BLOCKED,
+        QUEUED,
+        INTERRUPTED,
+        BROKEN,
+        ENDLESS,
+    ] {
         for strategy in [Strategy::Simple, Strategy::Ordered, Strategy::Priority] {
             for seed in 0..6 {
                 let trace = printed(&rt, alloc, script, strategy, seed)?;
