@@ -1,6 +1,6 @@
 -- The next line, where a floor rests.
 use Rattle.std.proofs.Common.{◌≡◌, ◌⊎◌, inl, inr, ℕ, suc, ◌<◌, Bool, true, false, List, [], ◌∷◌, length, Option, Some, None, Result, Ok, Err, refl, sym, ap, ◌∙◌, subst, arith, slice_index_or}
-use Rattle.std.specs.Prelude.{IfOk}
+use Rattle.std.specs.Prelude.{IfOk, option_map}
 use Rattle.std.specs.List.{list_any}
 use Rattle.std.proofs.lemmas.Bool.{false≢true, or_cases}
 use Rattle.std.proofs.lemmas.List.Folds.{list_any_at}
@@ -17,7 +17,7 @@ use Rattle.bp_run.specs.Story.{line_of_choice}
 use Rattle.bp_reading.specs.Words.{behind}
 use Rattle.bp_floor.specs.declared.went.Went.{Went}
 use Rattle.bp_floor.specs.declared.went.Went.TheVariants.{Moved as WentOn, Stopped}
-use Rattle.bp_floor.specs.Floors.{PlainFloor, StandsFor, GoesFrom, IsMoved, code_on, stop_of}
+use Rattle.bp_floor.specs.Floors.{PlainFloor, StandsFor, GoesAs, GoesFrom, IsMoved, code_on, stop_of}
 use Rattle.bp_arbiter.specs.Arbiters.{is_lent}
 use Rattle.bp_arbiter.proofs.Calls.{calls_stepped}
 use Rattle.bp_free.specs.Due as free
@@ -55,6 +55,15 @@ went_on f g e place m whole goes = record {
       };
 }
 
+-- it went on, or it was stopped
+abbrev pub WentFor : PlainFloor → PlainEvent → Option ℕ → Went → PlainFloor → Type 0
+WentFor f e place WentOn g = GoesOn f e place g
+WentFor f e place (Stopped v) g = (w : Verdict) × (stop_of f e ≡ Some w) × (g ≡ f)
+
+pub went_for : (f g : PlainFloor) (e : PlainEvent) (place : Option ℕ) (w : Went) → GoesAs f e place w g → g.broken ≡ false → ((taken : List Line) (p : Pair Origin) → StandsFor f taken p → GoesFrom (code_on f) taken p e place w g) → WentFor f e place w g
+went_for f g e place WentOn m whole goes = went_on f g e place m whole goes
+went_for f g e place (Stopped v) m whole goes = (v, m.0, m.1)
+
 -- ---- verdicts with which an event stops the run
 
 pub stops_not : (f : PlainFloor) (e : PlainEvent) (bytes : List ℕ) → None ≡ stop_of f e → StopsWith f e bytes None
@@ -63,6 +72,11 @@ stops_not f e bytes h = λ v k. absurd (none-some _ (h ∙ k))
 pub stops_with : (f : PlainFloor) (e : PlainEvent) (v : Verdict) (bytes : List ℕ) (rest : Option (List ℕ)) → Some v ≡ stop_of f e → rest ≡ behind (whole_line (trace.Verdict v)) bytes → StopsWith f e bytes rest
 stops_with f e v bytes (Some rest) h k = record { verdict = v; stops = sym h; line = begins_at (trace.Verdict v) bytes rest (sym k) }
 stops_with f e v bytes None h k = λ w m. subst (λ (x : Verdict). IsNot (trace.Verdict x) bytes) (same_Some v w (h ∙ m)) (not_at (trace.Verdict v) bytes (sym k))
+
+pub stops_answer : {E A : Type 0} (r : Result (Option A) E) (f : PlainFloor) (e : PlainEvent) (v : Verdict) (bytes : List ℕ) (view : A → List ℕ) → Some v ≡ stop_of f e →
+    IfOk r (λ o. option_map view o ≡ behind (whole_line (trace.Verdict v)) bytes) → IfOk r (λ o. StopsWith f e bytes (option_map view o))
+stops_answer {E} {A} (Ok o) f e v bytes view h k = stops_with f e v bytes (option_map view o) h k
+stops_answer {E} {A} (Err x) f e v bytes view h k = tt
 
 at_some : (e : PlainEvent) (es : List PlainEvent) → list_any (same_event e) es ≡ true → (k : ℕ) × (k < length es) × ((d : PlainEvent) → slice_index_or es k d ≡ e)
 at_some e [] h = absurd (false≢true h)
