@@ -38,7 +38,8 @@ use Rattle.bp_free.proofs.Blockers.{inner_at}
 use Rattle.bp_free.proofs.Choosing.{if_any, at_place}
 use Rattle.bp_free.proofs.Open.{inner_of, is_open}
 use Rattle.bp_audit.specs.declared.resting.Selectable.{Selectable}
-use Rattle.bp_audit.specs.Dues.{IsSelectable, IsOpenTo, due_on}
+use Rattle.bp_audit.specs.declared.resting.Due.TheVariants as due_found
+use Rattle.bp_audit.specs.Dues.{DueAs, IsSelectable, IsOpenTo, due_on}
 
 -- ---- phases
 
@@ -276,3 +277,11 @@ pub first_queued : (x : Enabled) (queue : List PlainEvent) (given : Selectable) 
     is_first_queued x.inner x.outer queue e ≡ (is_some given.place && list_any (same_event e) given.events.items)
 first_queued x queue given e i =
     first_outer x.inner x.outer queue e ∙ ap is_outer (i.placed e) ∙ outer_if (list_any (same_event e) given.events.items) given.place
+
+-- ---- these events, or the limit of steps
+
+pub made : (o : PlainOptions) (s : Stand Origin) (x : Enabled) (queue : List PlainEvent) → (s.transitions == o.steps) ≡ true → DueAs (due_open o s x) queue (due_found.Ends (verdict.Steps o.steps))
+made o s x queue h = subst (λ (d : free.Due). DueAs d queue (due_found.Ends (verdict.Steps o.steps))) (sym (open_if o s x true h)) refl
+
+pub unmade : (o : PlainOptions) (s : Stand Origin) (x : Enabled) (queue : List PlainEvent) (given : Selectable) → (s.transitions == o.steps) ≡ false → IsSelectable x queue given → DueAs (due_open o s x) queue (due_found.Goes given)
+unmade o s x queue given h i = subst (λ (d : free.Due). DueAs d queue (due_found.Goes given)) (sym (open_if o s x false h)) i
