@@ -12,9 +12,9 @@ when_open-requires-clause-open c =
 
 pub when_open-requires-clause-rest : goal.when_open-requires-clause-rest
 when_open-requires-clause-rest c =
-    let open : IsOpenTo c.args.floor.now c.in-Goes.given.now =
+    let opened : IsOpenTo c.args.floor.now c.in-Goes.given.now =
     due_goes c.args.floor.now c.in-Goes.given.now (subst (λ (d : Due). DueAs (due_on c.args.floor.now) c.args.floor.now.pair.stand.queue d) c.in-Goes.is c.requires.due) in
-    rests_open c.args.floor.now (c.keeps.ensures c.requires.whole) c.requires.idle (goes_no_end c.args.floor.now c.in-Goes.given.now open)
+    rests_open c.args.floor.now (c.keeps.ensures c.requires.whole) c.requires.idle (goes_no_end c.args.floor.now c.in-Goes.given.now opened)
 
 pub returns-in-Ends : goal.returns-in-Ends
 returns-in-Ends c =
