@@ -13,4 +13,4 @@ returns c =
     let x = enabled_of c.args.enabled in
     let some : x.inner ≡ [] → ⊥ = search rules in
     subst (λ (d : free.Due). DueAs d s.queue c.unless_made.result) (sym (open_by_request f.options s x.inner x.outer some))
-    (c.unless_made.ensures x (of_requests (has_on f) (live_on f) s.queue x c.given (c.requires) some refl refl c.are_events.ensures))
+    (c.unless_made.ensures x (of_requests (has_on f) (live_on f) s.queue x _ c.requires some refl refl c.are_events.ensures))

@@ -1,0 +1,22 @@
+use Rattle.std.proofs.Common.{◌≡◌, ◌∙◌, refl, sym, subst, ap, rules, arith, length, ℕ, List, [], ◌∷◌, Option, Some}
+use Rattle.js_data.specs.Event.{PlainEvent}
+use Rattle.bp_floor.specs.Floors.{has_on, live_on}
+use Rattle.bp_free.specs.Due.{due_among}
+use Rattle.bp_audit.specs.Dues.{DueAs}
+use Rattle.bp_audit.proofs.Dues.{of_the_queue, queue_within}
+use Rattle.bp_audit.proofs.resting.of_queue.Goals as goal
+
+pub bounds-queue-place : goal.bounds-queue-place
+bounds-queue-place c =
+    let f = c.args.floor.now in
+    let w = queue_within (has_on f) (live_on f) f.pair.stand.queue c.args.place c.in-Some.place c.in-Some.is c.requires in
+    let e : length c.queue.result.now ≡ length f.pair.stand.queue = ap (λ (q : List PlainEvent). length q) c.queue.ensures in
+    omega (arith, w, e)
+
+pub returns : goal.returns
+returns c =
+    let f = c.args.floor.now in
+    let s = f.pair.stand in
+    let i = c.in-Some.place in
+    subst (λ (p : Option ℕ). DueAs (due_among f.options s [] p) s.queue c.unless_made.result) (sym c.in-Some.is)
+    (c.unless_made.ensures (record { inner = []; outer = Some i }) (of_the_queue s.queue i c.in_ok-copy.field-0 _ (search rules) refl (search rules) (search rules)))
