@@ -1,4 +1,6 @@
-use Rattle.std.proofs.Common.{◌≡◌, ◌∙◌, refl, sym, subst, rules, [], IfOk}
+use Rattle.std.proofs.Common.{◌≡◌, refl, sym, subst, rules, List, []}
+use Rattle.std.specs.List.{All}
+use Rattle.js_data.specs.Event.{PlainEvent, IsEvent}
 use Rattle.bp_select.specs.Answers.{enabled_of}
 use Rattle.bp_floor.specs.Floors.{has_on, live_on}
 use Rattle.bp_free.specs.Due as free
@@ -12,5 +14,6 @@ returns c =
     let s = f.pair.stand in
     let x = enabled_of c.args.enabled in
     let some : x.inner ≡ [] → ⊥ = search rules in
+    let all : All IsEvent x.inner = subst (λ (es : List PlainEvent). All IsEvent es) c.as_slice.ensures.value c.are_events.ensures in
     subst (λ (d : free.Due). DueAs d s.queue c.unless_made.result) (sym (open_by_request f.options s x.inner x.outer some))
-    (c.unless_made.ensures x (of_requests (has_on f) (live_on f) s.queue x _ c.requires some refl refl c.are_events.ensures))
+    (c.unless_made.ensures x (of_requests (has_on f) (live_on f) s.queue x _ c.requires some refl refl all))
