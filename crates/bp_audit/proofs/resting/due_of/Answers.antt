@@ -1,7 +1,7 @@
-use Rattle.std.proofs.Common.{◌≡◌, ◌∙◌, refl, sym, subst, ap, rules, Option, Some, None}
+use Rattle.std.proofs.Common.{◌≡◌, ◌<◌, refl, sym, subst, arith, rules, length, Some, None}
 use Rattle.std.specs.Prelude.{IfOk}
-use Rattle.bp_log.specs.declared.verdict.Verdict.{Verdict}
 use Rattle.bp_run.specs.Selecting.{live, selectable}
+use Rattle.bp_select.specs.declared.answers.SelectFault.TheVariants.{Set}
 use Rattle.bp_select.specs.Answers.{FaultAs, enabled_of}
 use Rattle.bp_floor.specs.Floors.{PlainFloor, code_on, told_verdict}
 use Rattle.bp_free.specs.Due as free
@@ -30,14 +30,20 @@ returns-in-Ok-clause-due c =
 pub fault_verdict-requires : goal.fault_verdict-requires
 fault_verdict-requires c =
     let f = c.args.floor.now in
-    let within = fault_within (code_on f) f.options f.pair.stand c.in-Err-Set.number c.in-Err-Set.fault (search rules) in
-    ?
+    let n = c.in-Err-Set.number in
+    let within = fault_within (code_on f) f.options f.pair.stand n c.in-Err-Set.fault (search rules) in
+    let low : n < length c.enabled.new.self.pair.stand.threads = subst (λ (g : PlainFloor). n < length g.pair.stand.threads) (sym c.enabled.ensures.same) within in
+    let same = c.in-Err-Set.number-is in
+    omega (arith, low, same)
 
 pub returns-in_ok-fault_verdict-in-Err-Set-clause-due : goal.returns-in_ok-fault_verdict-in-Err-Set-clause-due
 returns-in_ok-fault_verdict-in-Err-Set-clause-due c =
     let f = c.args.floor.now in
-    let none : f.pair.stand.verdict ≡ None = search rules in
-    let h = c.in-Err-Set in
-    let k = c.in_ok-fault_verdict in
-    let e = c.enabled in
-    ?
+    let s = f.pair.stand in
+    let n = c.in-Err-Set.number in
+    let x = c.in-Err-Set.fault in
+    let v = c.in_ok-fault_verdict-in-Err-Set.field-0 in
+    let none : s.verdict ≡ None = search rules in
+    let fault : FaultAs (selectable (code_on f).has (live (code_on f) s) s.queue) (Set n x) = search rules in
+    let told : told_verdict s n x ≡ Some v = search rules in
+    subst (λ (d : free.Due). DueAs d s.queue (due.Ends v)) (sym (due_fault (code_on f) f.options s n x v none fault told)) refl
