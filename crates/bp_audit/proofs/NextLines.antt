@@ -64,6 +64,9 @@ pub went_for : (f g : PlainFloor) (e : PlainEvent) (place : Option ℕ) (w : Wen
 went_for f g e place WentOn m whole goes = went_on f g e place m whole goes
 went_for f g e place (Stopped v) m whole goes = (v, m.0, m.1)
 
+pub on_went : {E : Type 0} (r : Result NextLine E) (f : PlainFloor) (e : PlainEvent) (place : Option ℕ) (rest : List ℕ) (x : NextLine) (g : PlainFloor) → r ≡ Ok x → WentAs f e place rest x g → IfOk r (λ y. WentAs f e place rest y g)
+on_went {E} r f e place rest x g h w = subst (λ (q : Result NextLine E). IfOk q (λ y. WentAs f e place rest y g)) (sym h) w
+
 -- ---- verdicts with which an event stops the run
 
 pub stops_not : (f : PlainFloor) (e : PlainEvent) (bytes : List ℕ) → None ≡ stop_of f e → StopsWith f e bytes None

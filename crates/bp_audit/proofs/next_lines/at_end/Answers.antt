@@ -8,9 +8,9 @@ use Rattle.bp_audit.proofs.next_lines.at_end.Goals as goal
 pub returns-in-Some : goal.returns-in-Some
 returns-in-Some c =
     subst (λ (v : Verdict). VerdictAs v c.args.bytes.now _) c.in_ok-copy.ensures
-    (verdict_there c.in_ok-copy.field-0 c.args.bytes.now c.in-Some.rest.now (ap (option_map (λ rest. rest.now)) (sym c.in-Some.is) ∙ c.in_ok-behind_verdict.ensures))
+    (verdict_there c.in_ok-copy.field-0 c.args.bytes.now c.in-Some.rest.now (ap (option_map (λ rest. rest.now)) (sym c.in-Some.is) ∙ c.in_ok-rest.ensures))
 
 pub returns-in-None : goal.returns-in-None
 returns-in-None c =
     subst (λ (v : Verdict). VerdictAs v c.args.bytes.now _) c.in_ok-copy.ensures
-    (verdict_not c.in_ok-copy.field-0 c.args.bytes.now (ap (option_map (λ rest. rest.now)) (sym c.in-None.is) ∙ c.in_ok-behind_verdict.ensures))
+    (verdict_not c.in_ok-copy.field-0 c.args.bytes.now (ap (option_map (λ rest. rest.now)) (sym c.in-None.is) ∙ c.in_ok-rest.ensures))
