@@ -24,6 +24,7 @@ use Rattle.bp_free.specs.Reasons.{blocked_by, event_reason, external_reason, int
 use Rattle.bp_audit.specs.declared.claims.Claim.{Claim}
 use Rattle.bp_audit.specs.declared.claims.Claim.TheVariants.{Cut, TooLong, Event, External, Other}
 use Rattle.bp_audit.specs.declared.resting.Selectable.{Selectable}
+use Rattle.bp_audit.specs.declared.resting.Due.{Due}
 use Rattle.bp_audit.specs.declared.resting.Due.TheVariants as due_found
 use Rattle.bp_audit.specs.Claims.{ClaimAs}
 use Rattle.bp_audit.specs.Dues.{DueAs}
@@ -45,6 +46,15 @@ pub goes_told : (d : free.Due) (queue : List PlainEvent) (given : Selectable) �
 goes_told (free.Ends w) queue given h = absurd h
 goes_told (free.Goes x) queue given h = refl
 goes_told (free.Idles w) queue given h = absurd h
+
+ends_found : (w : Verdict) (queue : List PlainEvent) (x : Due) → DueAs (free.Ends w) queue x → x ≡ due_found.Ends w
+ends_found w queue (due_found.Ends v) h = ap (λ (u : Verdict). due_found.Ends u) (sym h)
+ends_found w queue (due_found.Goes given) h = absurd h
+ends_found w queue (due_found.Idles v) h = absurd h
+
+-- where what was found is no verdict alone
+pub no_end : (d : free.Due) (queue : List PlainEvent) (x : Due) → DueAs d queue x → ((v : Verdict) → x ≡ due_found.Ends v → ⊥) → (w : Verdict) → d ≡ free.Ends w → ⊥
+no_end d queue x h n w e = n w (ends_found w queue x (subst (λ (y : free.Due). DueAs y queue x) e h))
 
 -- ---- an event of the queue
 
