@@ -1,7 +1,7 @@
 //! What comes of a pick.
 
 /// What comes of a pick.
-#[derive(Clone, Copy)]
+#[derive(Clone, Copy, PartialEq, Eq)]
 pub enum Picked {
     /// An event was selected.
     Moved,

@@ -22,7 +22,7 @@ pub struct Feed<S> {
 }
 
 /// What a turn did.
-#[derive(Clone, Copy)]
+#[derive(Clone, Copy, PartialEq, Eq)]
 pub enum Fed {
     /// An item found no place and is kept.
     Full,

@@ -1,7 +1,7 @@
 //! What a reading of lines has reached.
 
 /// What was reached.
-#[derive(Clone, Copy)]
+#[derive(Clone, Copy, PartialEq, Eq)]
 pub(crate) enum Reached {
     /// A line, or the end, is still to come.
     Within,

@@ -1,7 +1,7 @@
 //! What a token is for the grammar.
 
 /// A sort of tokens: a variant for each mark and each word of the language.
-#[derive(Clone, Copy)]
+#[derive(Clone, Copy, PartialEq, Eq)]
 pub enum Sort {
     /// A name that is no word.
     Name,

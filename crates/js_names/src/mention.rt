@@ -9,7 +9,7 @@ use std::sync::Arc;
 use thiserror::Error;
 
 /// What a name is declared as.
-#[derive(Clone, Copy)]
+#[derive(Clone, Copy, PartialEq, Eq)]
 pub enum Role {
     Parameter,
     Const,

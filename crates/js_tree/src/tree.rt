@@ -99,7 +99,7 @@ pub enum AssignOp {
 }
 
 /// The word of a declaration.
-#[derive(Clone, Copy, Debug)]
+#[derive(Clone, Copy, Debug, PartialEq, Eq)]
 pub enum DeclareKind {
     Const,
     Let,

@@ -4,8 +4,8 @@ use Rattle.bp_replay.specs.Courses.{coming}
 use Rattle.bp_replay.proofs.Steps.{picks, waits_parts, made_of, records_made, some_made, followed_made}
 use Rattle.bp_replay.proofs.following.make.Goals as goal
 
-pub returns-then-branch-eq1-clause-followed : goal.returns-then-branch-eq1-clause-followed
-returns-then-branch-eq1-clause-followed c =
+pub returns-then-eq-clause-followed : goal.returns-then-eq-clause-followed
+returns-then-eq-clause-followed c =
     let e = c.in_ok-pick.ensures in
     let wait : c.in_ok-pick.field-0 ≡ picked.Wait = search rules in
     λ d t u.

@@ -55,8 +55,8 @@ pub verdict_shown-requires-clause-over : goal.verdict_shown-requires-clause-over
 verdict_shown-requires-clause-over g c =
     search rules
 
-pub returns-then-phase-eq3-clause-stops : goal.returns-then-phase-eq3-clause-stops
-returns-then-phase-eq3-clause-stops g c =
+pub returns-then-eq-clause-stops : goal.returns-then-eq-clause-stops
+returns-then-eq-clause-stops g c =
     let first = given_to g.K.Sink c.args.outlets.now in
     let told = given_to g.K.Sink c.settle_and_tell.new.outlets in
     let wrote = given_to g.K.Sink c.verdict_shown.new.outlets in
@@ -66,8 +66,8 @@ returns-then-phase-eq3-clause-stops g c =
     (λ s h. turn_stops_then g.L.Sink.written c.loop.readings.items c.args.core.now c.settle_and_tell.new.core first told wrote c.args.telling.now c.settle_and_tell.new.telling c.verdict_shown.new.telling s served h)
     c.verdict_shown.ensures.stops
 
-pub returns-then-phase-eq3-clause-written : goal.returns-then-phase-eq3-clause-written
-returns-then-phase-eq3-clause-written g c =
+pub returns-then-eq-clause-written : goal.returns-then-eq-clause-written
+returns-then-eq-clause-written g c =
     let first = given_to g.K.Sink c.args.outlets.now in
     let told = given_to g.K.Sink c.settle_and_tell.new.outlets in
     let wrote = given_to g.K.Sink c.verdict_shown.new.outlets in
@@ -77,8 +77,8 @@ returns-then-phase-eq3-clause-written g c =
     (tells_then c.loop.invariant.serves c.in_ok-settle_and_tell.ensures.tells))
     c.verdict_shown.ensures.all
 
-pub returns-then-phase-eq3-clause-writes : goal.returns-then-phase-eq3-clause-writes
-returns-then-phase-eq3-clause-writes g c =
+pub returns-then-eq-clause-writes : goal.returns-then-eq-clause-writes
+returns-then-eq-clause-writes g c =
     writes_on (writes_on c.loop.invariant.writes c.in_ok-settle_and_tell.ensures.writes) c.verdict_shown.ensures.writes
 
 pub returns-in_err-write_where-clause-stops : goal.returns-in_err-write_where-clause-stops
@@ -154,8 +154,8 @@ returns-in_err-settle_and_tell-clause-hears g c =
       goes_on = c.loop.invariant.hears.goes_on;
     }
 
-pub returns-then-phase-eq3-clause-hears : goal.returns-then-phase-eq3-clause-hears
-returns-then-phase-eq3-clause-hears g c =
+pub returns-then-eq-clause-hears : goal.returns-then-eq-clause-hears
+returns-then-eq-clause-hears g c =
     record {
       heard = heard_kept c.loop.core.arbiter.records c.settle_and_tell.new.core.arbiter.records c.loop.readings.items c.settle_and_tell.ensures.items c.loop.invariant.hears.heard;
       goes_on = c.loop.invariant.hears.goes_on;
