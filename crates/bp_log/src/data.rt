@@ -6,7 +6,7 @@ ghost use Rattle.js_data.specs.Views.{plain_data, data_list_view, data_fields_vi
 
 use crate::Memory;
 use crate::behind::push_quoted;
-use js_data::{Data, Text, Whole};
+use js_data::{Data, Field, Text, Whole};
 use std::alloc::Global;
 
 /// Appends a comma, where something stands before.
@@ -67,16 +67,16 @@ fn push_items(alloc: Global, items: &Vec<Data>, out: &mut String) -> Result<(), 
 
 /// Appends the fields and their closing bracket.
 #[cycle(data)]
-fn push_fields(alloc: Global, fields: &Vec<(Text, Data)>, out: &mut String) -> Result<(), Memory>
+fn push_fields(alloc: Global, fields: &Vec<Field>, out: &mut String) -> Result<(), Memory>
     ensures { OnOk result (string_bytes out.new
         ≡ string_bytes out.old ++ data_fields_text false (data_fields_view fields.now.items)) }
 {
     let mut later = false;
     for field in fields {
         push_comma(later, out)?;
-        push_quoted(alloc, &field.0, out)?;
+        push_quoted(alloc, &field.key, out)?;
         out.push_str(":")?;
-        push_data(alloc, &field.1, out)?;
+        push_data(alloc, &field.data, out)?;
         later = true;
     }
     out.push_str("}")

@@ -1,8 +1,10 @@
 -- Lists and fields of data that are made one by one from the front.
-use Rattle.std.proofs.Common.{◌≡◌, ℕ, List, [], ◌∷◌, ◌++◌, Option, Some, None, option_map, refl, sym, ap}
+use Rattle.std.proofs.Common.{◌≡◌, ℕ, List, [], ◌∷◌, ◌++◌, Option, Some, None, option_map, refl, sym, ap, ◌∙◌}
 use Rattle.js_data.specs.Data.{DataList, no_data, item, DataFields, no_fields, field}
 use Rattle.js_data.specs.Views.{plain_data, data_list_view, data_fields_view}
 use Rattle.js_data.specs.declared.data.Data.{Data}
+use Rattle.js_data.specs.declared.data.Field.{Field}
+use Rattle.js_data.proofs.Fields.{fields_next}
 
 -- the data, before more
 abbrev pub after : List Data → DataList → DataList
@@ -21,18 +23,18 @@ pub one_more : (xs : List Data) (x : Data) (r : Option DataList) → option_map 
 one_more xs x None = refl
 one_more xs x (Some ds) = ap Some (sym (after_push xs x ds))
 
-abbrev pub after_fields : List (List ℕ × Data) → DataFields → DataFields
+abbrev pub after_fields : List Field → DataFields → DataFields
 after_fields [] fs = fs
-after_fields (x ∷ xs) fs = field x.0 (plain_data x.1) (after_fields xs fs)
+after_fields (x ∷ xs) fs = field x.key (plain_data x.data) (after_fields xs fs)
 
-pub after_fields_none : (xs : List (List ℕ × Data)) → after_fields xs no_fields ≡ data_fields_view xs
+pub after_fields_none : (xs : List Field) → after_fields xs no_fields ≡ data_fields_view xs
 after_fields_none [] = refl
-after_fields_none (x ∷ xs) = ap (field x.0 (plain_data x.1)) (after_fields_none xs)
+after_fields_none (x ∷ xs) = ap (field x.key (plain_data x.data)) (after_fields_none xs) ∙ sym (fields_next x xs)
 
-after_fields_push : (xs : List (List ℕ × Data)) (x : List ℕ × Data) (fs : DataFields) → after_fields (xs ++ x ∷ []) fs ≡ after_fields xs (field x.0 (plain_data x.1) fs)
+after_fields_push : (xs : List Field) (x : Field) (fs : DataFields) → after_fields (xs ++ x ∷ []) fs ≡ after_fields xs (field x.key (plain_data x.data) fs)
 after_fields_push [] x fs = refl
-after_fields_push (y ∷ xs) x fs = ap (field y.0 (plain_data y.1)) (after_fields_push xs x fs)
+after_fields_push (y ∷ xs) x fs = ap (field y.key (plain_data y.data)) (after_fields_push xs x fs)
 
-pub one_more_field : (xs : List (List ℕ × Data)) (x : List ℕ × Data) (r : Option DataFields) → option_map (after_fields xs) (option_map (field x.0 (plain_data x.1)) r) ≡ option_map (after_fields (xs ++ x ∷ [])) r
+pub one_more_field : (xs : List Field) (x : Field) (r : Option DataFields) → option_map (after_fields xs) (option_map (field x.key (plain_data x.data)) r) ≡ option_map (after_fields (xs ++ x ∷ [])) r
 one_more_field xs x None = refl
 one_more_field xs x (Some fs) = ap Some (sym (after_fields_push xs x fs))

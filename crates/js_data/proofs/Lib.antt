@@ -3,4 +3,5 @@ pub mod SameEvent
 mod Examples
 pub mod Crosses
 pub mod Shared
+pub mod Fields
 pub mod After

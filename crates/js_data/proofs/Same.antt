@@ -8,6 +8,7 @@ use Rattle.std.proofs.lemmas.Slice.Eq.{bytes_eq-Decides}
 use Rattle.js_data.specs.Data.{PlainData, null, truth, whole, text, list, fields, DataList, no_data, item, DataFields, no_fields, field, same_data, same_data_list, same_data_fields}
 use Rattle.js_data.specs.Views.{data_list_view, data_fields_view}
 use Rattle.js_data.specs.declared.data.Data.{Data}
+use Rattle.js_data.specs.declared.data.Field.{Field}
 
 pub differ_by_length : (xs ys : List Data) → length xs ≢ length ys → same_data_list (data_list_view xs) (data_list_view ys) ≡ false
 differ_by_length [] [] h = absurd (h refl)
@@ -15,7 +16,7 @@ differ_by_length [] (y ∷ ys) h = refl
 differ_by_length (x ∷ xs) [] h = refl
 differ_by_length (x ∷ xs) (y ∷ ys) h = rw (differ_by_length xs ys (λ e. h (ap suc e))) (and-false _)
 
-pub fields_differ_by_length : (xs ys : List (List ℕ × Data)) → length xs ≢ length ys → same_data_fields (data_fields_view xs) (data_fields_view ys) ≡ false
+pub fields_differ_by_length : (xs ys : List Field) → length xs ≢ length ys → same_data_fields (data_fields_view xs) (data_fields_view ys) ≡ false
 fields_differ_by_length [] [] h = absurd (h refl)
 fields_differ_by_length [] (y ∷ ys) h = refl
 fields_differ_by_length (x ∷ xs) [] h = refl

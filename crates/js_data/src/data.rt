@@ -11,6 +11,7 @@ use crate::whole::Whole;
 
 /// What an event may carry beside its name.
 #[derive(Debug)]
+#[cycle(data)]
 pub enum Data {
     /// Null.
     Null,
@@ -23,12 +24,21 @@ pub enum Data {
     /// A list.
     List(Vec<Data>),
     /// Fields; wherever a condition says so, their keys are sorted by their bytes and distinct.
-    Fields(Vec<(Text, Data)>),
+    Fields(Vec<Field>),
 }
 
-// It is let go by one call, written out: so a function that lets data go has one thing to show for it, and not
-// one for each kind.
+/// A key and the data under it.
+#[derive(Debug)]
+#[cycle(data)]
+pub struct Field {
+    pub key: Text,
+    pub data: Data,
+}
+
+// Each is let go by one call, written out: so a function that lets data or a field go has one thing to show for
+// it, and not one for each kind or part.
 impl Drop for Data {
+    #[cycle(data)]
     fn drop(self) {
         match self {
             Data::Null => {}
@@ -38,6 +48,13 @@ impl Drop for Data {
             Data::List(_) => {}
             Data::Fields(_) => {}
         }
+    }
+}
+
+impl Drop for Field {
+    #[cycle(data)]
+    fn drop(self) {
+        let Field { key: _, data: _ } = self;
     }
 }
 
@@ -81,14 +98,14 @@ fn list_weight(items: &Vec<Data>) -> u64
 }
 
 #[cycle(weight)]
-fn fields_weight(fields: &Vec<(Text, Data)>) -> u64
+fn fields_weight(fields: &Vec<Field>) -> u64
     ensures held { AreHeldFields (data_fields_view fields.now.items) }
     ensures weight { result ≡ capped (1 + data_fields_weight (data_fields_view fields.now.items)) }
 {
     let mut sum = 1u64;
     for field in fields {
-        sum = sum.saturating_add(text_weight(&field.0));
-        sum = sum.saturating_add(data_weight(&field.1));
+        sum = sum.saturating_add(text_weight(&field.key));
+        sum = sum.saturating_add(data_weight(&field.data));
     }
     sum
 }
@@ -117,12 +134,12 @@ fn list_nesting(items: &Vec<Data>) -> u64
 }
 
 #[cycle(nesting)]
-fn fields_nesting(fields: &Vec<(Text, Data)>) -> u64
+fn fields_nesting(fields: &Vec<Field>) -> u64
     ensures { result ≡ capped (data_fields_nesting (data_fields_view fields.now.items)) }
 {
     let mut most = 0u64;
     for field in fields {
-        most = most.max(data_nesting(&field.1));
+        most = most.max(data_nesting(&field.data));
     }
     most
 }
@@ -154,13 +171,14 @@ fn copy_list(items: &Vec<Data>) -> Result<Vec<Data>, Memory>
 }
 
 #[cycle(copy)]
-fn copy_fields(fields: &Vec<(Text, Data)>) -> Result<Vec<(Text, Data)>, Memory>
+fn copy_fields(fields: &Vec<Field>) -> Result<Vec<Field>, Memory>
     ensures { IfOk result (λ v. data_fields_view v.items ≡ data_fields_view fields.now.items) }
 {
     let mut copies = Vec::with_capacity(*fields.allocator(), fields.len())?;
     for field in fields {
-        let key = field.0.copy()?;
-        copies.push((key, copy_data(&field.1)?))?;
+        let key = field.key.copy()?;
+        let data = copy_data(&field.data)?;
+        copies.push(Field { key, data })?;
     }
     Ok(copies)
 }
@@ -205,7 +223,7 @@ fn same_list(left: &Vec<Data>, right: &Vec<Data>) -> bool
 }
 
 #[cycle(same)]
-fn same_fields(left: &Vec<(Text, Data)>, right: &Vec<(Text, Data)>) -> bool
+fn same_fields(left: &Vec<Field>, right: &Vec<Field>) -> bool
     ensures { result
         ≡ same_data_fields (data_fields_view left.now.items) (data_fields_view right.now.items) }
 {
@@ -213,7 +231,8 @@ fn same_fields(left: &Vec<(Text, Data)>, right: &Vec<(Text, Data)>) -> bool
         return false;
     }
     for i in 0..left.len() {
-        if !left[i].0.same(&right[i].0) || !same_data(&left[i].1, &right[i].1) {
+        let (one, other) = (&left[i], &right[i]);
+        if !one.key.same(&other.key) || !same_data(&one.data, &other.data) {
             return false;
         }
     }

@@ -7,7 +7,7 @@ pub mod fault;
 pub mod text;
 pub mod whole;
 
-pub use data::{Data, are_equal, copy_data, data_nesting, data_weight, text_weight};
+pub use data::{Data, Field, are_equal, copy_data, data_nesting, data_weight, text_weight};
 pub use event::{Event, TooHeavy};
 pub use fault::Fault;
 use std::alloc::AllocError;

@@ -7,7 +7,8 @@ use Rattle.std.proofs.lemmas.Slice.Eq.{bytes_eq-Decides}
 use Rattle.std.proofs.lemmas.List.{drop_all}
 use Rattle.js_data.specs.Event.{PlainEvent}
 use Rattle.js_data.specs.Views.{plain_data, data_fields_view}
-use Rattle.js_data.specs.declared.data.Data.{Data}
+use Rattle.js_data.specs.declared.data.Field.{Field}
+use Rattle.js_data.proofs.Fields.{fields_next}
 use Rattle.js_data.proofs.Shared.{drop_is}
 use Rattle.js_value.specs.Value as v
 use Rattle.js_value.specs.Value.{PlainValue}
@@ -94,21 +95,23 @@ module _ (base : js.Ground) (old : Place) where
   data_on mid new part n e r h w = on_ok r (λ step l. data_leads mid new part n e step h l) w
 
 -- the value under the key in fields of data
-abbrev pub found_in : List (List ℕ × Data) → List ℕ → PlainValue
+abbrev pub found_in : List Field → List ℕ → PlainValue
 found_in fs key = field_or_undefined (data_value_fields (data_fields_view fs)) key
 
-module _ (fs : List (List ℕ × Data)) (key : List ℕ) (i : ℕ) where
-  module _ (f : List ℕ × Data) (within : i < length fs) (is : f ≡ get_or fs i f) where
+module _ (fs : List Field) (key : List ℕ) (i : ℕ) where
+  module _ (f : Field) (within : i < length fs) (is : f ≡ get_or fs i f) where
     abbrev chosen : Bool → PlainValue
-    chosen b = unwrap_or (if b then Some (data_value (plain_data f.1)) else field_at (data_value_fields (data_fields_view (drop (i + 1) fs))) key) v.undefined
+    chosen b = unwrap_or (if b then Some (data_value (plain_data f.data)) else field_at (data_value_fields (data_fields_view (drop (i + 1) fs))) key) v.undefined
 
-    from_here : found_in (drop i fs) key ≡ chosen (bytes_eq f.0 key)
-    from_here = ap (λ l. found_in l key) (drop_is fs i f within is)
+    from_here : found_in (drop i fs) key ≡ chosen (bytes_eq f.key key)
+    from_here =
+        ap (λ l. found_in l key) (drop_is fs i f within is)
+        ∙ ap (λ l. field_or_undefined (data_value_fields l) key) (fields_next f (drop (i + 1) fs))
 
-    pub found_here : bytes_eq f.0 key ≡ true → found_in (drop i fs) key ≡ data_value (plain_data f.1)
+    pub found_here : bytes_eq f.key key ≡ true → found_in (drop i fs) key ≡ data_value (plain_data f.data)
     found_here e = from_here ∙ ap chosen e
 
-    pub found_later : bytes_eq f.0 key ≡ false → found_in (drop (i + 1) fs) key ≡ found_in (drop i fs) key
+    pub found_later : bytes_eq f.key key ≡ false → found_in (drop (i + 1) fs) key ≡ found_in (drop i fs) key
     found_later e = sym (from_here ∙ ap chosen e)
 
   pub found_never : length fs ≤ i → found_in (drop i fs) key ≡ v.undefined

@@ -17,7 +17,7 @@ use crate::engine::Engine;
 use crate::ground::Ground;
 use crate::nodes::node_of;
 use crate::step::{Step, answered};
-use js_data::{Data, Event, Memory, Text};
+use js_data::{Data, Event, Field, Memory, Text};
 use js_ops::{OpFault, member};
 use js_program::{Node, NodeForm};
 use js_value::{Value, value_of_data};
@@ -25,14 +25,14 @@ use std::alloc::Global;
 use std::sync::Arc;
 
 /// The value under the key of fields of data, or undefined.
-fn field_in(alloc: Global, fields: &[(Text, Data)], key: &Text) -> Result<Value, Memory>
+fn field_in(alloc: Global, fields: &[Field], key: &Text) -> Result<Value, Memory>
     requires { AreSortedDataFields (data_fields_view fields.now) }
     ensures { IfOk result (λ x. plain_value x
         ≡ field_or_undefined (data_value_fields (data_fields_view fields.now)) key.now) }
 {
     for field in fields {
-        if field.0.same(key) {
-            return value_of_data(alloc, &field.1);
+        if field.key.same(key) {
+            return value_of_data(alloc, &field.data);
         }
     }
     Ok(Value::Undefined)

@@ -11,6 +11,7 @@ use Rattle.serde_json.specs.Find.{as_str}
 use Rattle.js_data.specs.Data.{DataList, DataFields}
 use Rattle.js_data.specs.Views.{plain_data, data_list_view, data_fields_view}
 use Rattle.js_data.specs.declared.data.Data.{Data}
+use Rattle.js_data.specs.declared.data.Field.{Field}
 use Rattle.js_data.proofs.Shared.{drop_is}
 use Rattle.js_data.proofs.After.{after, after_none, one_more, after_fields, after_fields_none, one_more_field}
 
@@ -35,13 +36,13 @@ list_end made vs i h e =
     let none : drop i vs ≡ [] = drop_all i vs h in
     ap Some (sym (after_none made)) ∙ rw none at e
 
-pub fields_step : (made made' : List (List ℕ × Data)) (k : List ℕ) (x : Data) (e : Entry) (es : List Entry) (all : Option DataFields) → made' ≡ made ++ (k, x) ∷ [] → k ≡ string_bytes e.0 → data_from (view e.1) ≡ Some (plain_data x)
+pub fields_step : (made made' : List Field) (f : Field) (e : Entry) (es : List Entry) (all : Option DataFields) → made' ≡ made ++ f ∷ [] → f.key ≡ string_bytes e.0 → data_from (view e.1) ≡ Some (plain_data f.data)
     → option_map (after_fields made) (fields_from (members_view (e ∷ es))) ≡ all → option_map (after_fields made') (fields_from (members_view es)) ≡ all
-fields_step made made' k x e es all more same reads so_far =
+fields_step made made' f e es all more same reads so_far =
     let now = rw (reads, ← same) at so_far in
-    rw (more, ← one_more_field made (k, x) (fields_from (members_view es))) now
+    rw (more, ← one_more_field made f (fields_from (members_view es))) now
 
-pub fields_end : (made : List (List ℕ × Data)) (all : Option DataFields) → option_map (after_fields made) (fields_from (members_view [])) ≡ all → Some (data_fields_view made) ≡ all
+pub fields_end : (made : List Field) (all : Option DataFields) → option_map (after_fields made) (fields_from (members_view [])) ≡ all → Some (data_fields_view made) ≡ all
 fields_end made all e = ap Some (sym (after_fields_none made)) ∙ e
 
 -- ---- events

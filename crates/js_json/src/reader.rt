@@ -5,7 +5,7 @@ ghost use Rattle.serde_json.specs.Find.{as_i64};
 ghost use Rattle.js_data.specs.Views.{plain_data, data_list_view, data_fields_view};
 ghost use Rattle.js_json.specs.Json.{data_from, list_from, fields_from, if_whole, event_of_items, event_from, event_at};
 
-use js_data::{Data, Event, Memory, Text, Whole};
+use js_data::{Data, Event, Field, Memory, Text, Whole};
 use serde_json::{Map, Number, Value as Json};
 use std::alloc::{AllocError, Global};
 use thiserror::Error;
@@ -117,10 +117,7 @@ fn list_of(alloc: Global, items: &Vec<Json>) -> Result<Option<Vec<Data>>, Memory
 }
 
 #[cycle(of)]
-fn fields_of(
-    alloc: Global,
-    members: &Map<String, Json>,
-) -> Result<Option<Vec<(Text, Data)>>, Memory>
+fn fields_of(alloc: Global, members: &Map<String, Json>) -> Result<Option<Vec<Field>>, Memory>
     ensures { IfOk result (λ o. option_map (λ v. data_fields_view v.items) o
         ≡ fields_from (members_view members.now.entries)) }
 {
@@ -128,9 +125,9 @@ fn fields_of(
     for (key, member) in members.iter() {
         match data_of(alloc, member)? {
             None => return Ok(None),
-            Some(tree) => {
-                let name = Text::new(String::from_str(alloc, key.as_str())?);
-                made.push((name, tree))?;
+            Some(data) => {
+                let key = Text::new(String::from_str(alloc, key.as_str())?);
+                made.push(Field { key, data })?;
             }
         }
     }

@@ -8,7 +8,7 @@ ghost use Rattle.js_data.specs.Views.{plain_data, data_list_view, data_fields_vi
 ghost use Rattle.js_json.specs.inner.Built.{data_json, list_json, put_all, event_json};
 ghost use Rattle.js_json.specs.Json.{event_at};
 
-use js_data::{Data, Event, Memory, Text};
+use js_data::{Data, Event, Field, Memory, Text};
 use serde_json::{Map, Value as Json};
 use std::alloc::Global;
 
@@ -38,14 +38,14 @@ fn json_of_items(alloc: Global, items: &Vec<Data>) -> Result<Vec<Json>, Memory>
 }
 
 #[cycle(json)]
-fn json_of_fields(alloc: Global, fields: &Vec<(Text, Data)>) -> Result<Map<String, Json>, Memory>
+fn json_of_fields(alloc: Global, fields: &Vec<Field>) -> Result<Map<String, Json>, Memory>
     ensures { IfOk result (λ m. members_view m.entries
         ≡ put_all (data_fields_view fields.now.items) no_members) }
 {
     let mut made = Map::new(alloc);
     for field in fields {
-        let member = json_of(alloc, &field.1)?;
-        serde_json::put(&mut made, alloc, field.0.as_str(), member)?;
+        let member = json_of(alloc, &field.data)?;
+        serde_json::put(&mut made, alloc, field.key.as_str(), member)?;
     }
     Ok(made)
 }

@@ -5,6 +5,8 @@ use Rattle.std.proofs.lemmas.List.{drop_all, take_all}
 use Rattle.js_data.specs.Data.{DataList, DataFields}
 use Rattle.js_data.specs.Views.{plain_data, data_list_view, data_fields_view}
 use Rattle.js_data.specs.declared.data.Data.{Data}
+use Rattle.js_data.specs.declared.data.Field.{Field}
+use Rattle.js_data.proofs.Fields.{fields_next}
 use Rattle.js_data.proofs.Shared.{drop_is}
 use Rattle.js_data.proofs.After.{after, after_none, one_more, after_fields, after_fields_none, one_more_field}
 use Rattle.js_value.specs.Value as v
@@ -20,21 +22,21 @@ use Rattle.js_value.specs.Sets.{set_of, sets_of}
 abbrev pub value_of_item : Data → PlainValue
 value_of_item x = data_value (plain_data x)
 
-abbrev pub value_of_field : List ℕ × Data → List ℕ × PlainValue
-value_of_field f = (f.0, data_value (plain_data f.1))
+abbrev pub value_of_field : Field → List ℕ × PlainValue
+value_of_field f = (f.key, data_value (plain_data f.data))
 
 values_are : (ds : List Data) → value_list_of (map value_of_item ds) ≡ data_values (data_list_view ds)
 values_are [] = refl
 values_are (x ∷ ds) = ap (v.value (value_of_item x)) (values_are ds)
 
-fields_are : (fs : List (List ℕ × Data)) → value_fields_of (map value_of_field fs) ≡ data_value_fields (data_fields_view fs)
+fields_are : (fs : List Field) → value_fields_of (map value_of_field fs) ≡ data_value_fields (data_fields_view fs)
 fields_are [] = refl
-fields_are (f ∷ fs) = ap (v.field f.0 (value_of_item f.1)) (fields_are fs)
+fields_are (f ∷ fs) = ap (v.field f.key (value_of_item f.data)) (fields_are fs) ∙ ap data_value_fields (sym (fields_next f fs))
 
 pub values_done : (vs : List Value) (ds : List Data) (i : ℕ) → length ds ≤ i → map plain_value vs ≡ map value_of_item (take i ds) → value_list_view vs ≡ data_values (data_list_view ds)
 values_done vs ds i h e = ap value_list_of (e ∙ ap (map value_of_item) (take_all i ds h)) ∙ values_are ds
 
-pub value_fields_done : (vs : List (Arc (List ℕ) Global × Value)) (fs : List (List ℕ × Data)) (i : ℕ) → length fs ≤ i → map plain_value_field vs ≡ map value_of_field (take i fs) → value_fields_view vs ≡ data_value_fields (data_fields_view fs)
+pub value_fields_done : (vs : List (Arc (List ℕ) Global × Value)) (fs : List Field) (i : ℕ) → length fs ≤ i → map plain_value_field vs ≡ map value_of_field (take i fs) → value_fields_view vs ≡ data_value_fields (data_fields_view fs)
 value_fields_done vs fs i h e = ap value_fields_of (e ∙ ap (map value_of_field) (take_all i fs h)) ∙ fields_are fs
 
 -- ---- the item at the drop_is of what is left
@@ -52,14 +54,14 @@ data_end made us i h e = ap Some (sym (after_none made)) ∙ rw (drop_all i us h
 
 -- ---- fields as data
 
-pub fields_step : (made made' : List (List ℕ × Data)) (k : List ℕ) (x : Data) (u : Arc (List ℕ) Global × Value) (us : List (Arc (List ℕ) Global × Value)) (i : ℕ) (all : Option DataFields) → i < length us → u ≡ get_or us i u → made' ≡ made ++ (k, x) ∷ [] → k ≡ u.0.value → value_data (plain_value u.1) ≡ Some (plain_data x)
+pub fields_step : (made made' : List Field) (f : Field) (u : Arc (List ℕ) Global × Value) (us : List (Arc (List ℕ) Global × Value)) (i : ℕ) (all : Option DataFields) → i < length us → u ≡ get_or us i u → made' ≡ made ++ f ∷ [] → f.key ≡ u.0.value → value_data (plain_value u.1) ≡ Some (plain_data f.data)
     → option_map (after_fields made) (fields_data (value_fields_view (drop i us))) ≡ all → option_map (after_fields made') (fields_data (value_fields_view (drop (i + 1) us))) ≡ all
-fields_step made made' k x u us i all lt here more same reads so_far =
+fields_step made made' f u us i all lt here more same reads so_far =
     let now = rw (drop_is us i u lt here) at so_far in
     let later = rw (reads, ← same) at now in
-    rw (more, ← one_more_field made (k, x) (fields_data (value_fields_view (drop (i + 1) us)))) later
+    rw (more, ← one_more_field made f (fields_data (value_fields_view (drop (i + 1) us)))) later
 
-pub fields_end : (made : List (List ℕ × Data)) (us : List (Arc (List ℕ) Global × Value)) (i : ℕ) → length us ≤ i → option_map (after_fields made) (fields_data (value_fields_view (drop i us))) ≡ fields_data (value_fields_view us) → Some (data_fields_view made) ≡ fields_data (value_fields_view us)
+pub fields_end : (made : List Field) (us : List (Arc (List ℕ) Global × Value)) (i : ℕ) → length us ≤ i → option_map (after_fields made) (fields_data (value_fields_view (drop i us))) ≡ fields_data (value_fields_view us) → Some (data_fields_view made) ≡ fields_data (value_fields_view us)
 fields_end made us i h e = ap Some (sym (after_fields_none made)) ∙ rw (drop_all i us h) at e
 
 -- ---- values as sets

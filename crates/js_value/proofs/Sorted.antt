@@ -8,6 +8,8 @@ use Rattle.js_data.specs.Data.{PlainData, DataList, DataFields, IsSortedData, Ar
 use Rattle.js_data.specs.Event.{IsSortedExtra}
 use Rattle.js_data.specs.Views.{plain_data, data_list_view, data_fields_view}
 use Rattle.js_data.specs.declared.data.Data.{Data}
+use Rattle.js_data.specs.declared.data.Field.{Field}
+use Rattle.js_data.proofs.Fields.{fields_next}
 use Rattle.js_data.proofs.Shared.{OfSome}
 use Rattle.js_value.specs.Value as v
 use Rattle.js_value.specs.Value.{PlainValue, ValueList, ValueFields, IsSortedValue, AreSortedValues, AreSortedFields}
@@ -91,7 +93,10 @@ item_sorted [] i x lt e h = absurd (omega arith)
 item_sorted (y ∷ ds) zero x lt e h = subst (λ z. IsSortedData (plain_data z)) (sym e) h.0
 item_sorted (y ∷ ds) (suc i) x lt e h = item_sorted ds i x (omega arith) e h.1
 
-pub field_sorted : (fs : List (List ℕ × Data)) (i : ℕ) (f : List ℕ × Data) → i < length fs → f ≡ get_or fs i f → AreSortedDataFields (data_fields_view fs) → IsSortedData (plain_data f.1)
+sorted_next : (f : Field) (fs : List Field) → AreSortedDataFields (data_fields_view (f ∷ fs)) → IsSortedData (plain_data f.data) × AreSortedDataFields (data_fields_view fs)
+sorted_next f fs h = let s = subst AreSortedDataFields (fields_next f fs) h in (s.1, s.2)
+
+pub field_sorted : (fs : List Field) (i : ℕ) (f : Field) → i < length fs → f ≡ get_or fs i f → AreSortedDataFields (data_fields_view fs) → IsSortedData (plain_data f.data)
 field_sorted [] i f lt e h = absurd (omega arith)
-field_sorted (g ∷ fs) zero f lt e h = subst (λ (z : List ℕ × Data). IsSortedData (plain_data z.1)) (sym e) h.1
-field_sorted (g ∷ fs) (suc i) f lt e h = field_sorted fs i f (omega arith) e h.2
+field_sorted (g ∷ fs) zero f lt e h = subst (λ (z : Field). IsSortedData (plain_data z.data)) (sym e) (sorted_next g fs h).0
+field_sorted (g ∷ fs) (suc i) f lt e h = field_sorted fs i f (omega arith) e (sorted_next g fs h).1

@@ -9,7 +9,7 @@ ghost use Rattle.js_value.specs.DataValues.{data_value, data_values, data_value_
 
 use crate::reading::text_value;
 use crate::value::{Items, Pairs, Value};
-use js_data::{Data, Memory, Text};
+use js_data::{Data, Field, Memory, Text};
 use std::alloc::Global;
 use std::sync::Arc;
 
@@ -49,7 +49,7 @@ fn values_of_data(alloc: Global, items: &Vec<Data>) -> Result<Vec<Value>, Memory
 #[cycle(value_of)]
 fn fields_of_data(
     alloc: Global,
-    fields: &Vec<(Text, Data)>,
+    fields: &Vec<Field>,
 ) -> Result<Vec<(Arc<Text>, Value)>, Memory>
     requires { AreSortedDataFields (data_fields_view fields.now.items) }
     ensures fields { IfOk result (λ v. value_fields_view v.items
@@ -58,8 +58,8 @@ fn fields_of_data(
 {
     let mut values = Vec::with_capacity(alloc, fields.len())?;
     for field in fields {
-        let key = Arc::new(alloc, field.0.copy()?)?;
-        values.push((key, value_of_data(alloc, &field.1)?))?;
+        let key = Arc::new(alloc, field.key.copy()?)?;
+        values.push((key, value_of_data(alloc, &field.data)?))?;
     }
     Ok(values)
 }
@@ -111,7 +111,7 @@ fn data_of_values(alloc: Global, items: &Items) -> Result<Option<Vec<Data>>, Mem
 }
 
 #[cycle(data_of)]
-fn data_of_fields(alloc: Global, fields: &Pairs) -> Result<Option<Vec<(Text, Data)>>, Memory>
+fn data_of_fields(alloc: Global, fields: &Pairs) -> Result<Option<Vec<Field>>, Memory>
     ensures { IfOk result (λ o. option_map (λ v. data_fields_view v.items) o
         ≡ fields_data fields.now) }
 {
@@ -119,9 +119,9 @@ fn data_of_fields(alloc: Global, fields: &Pairs) -> Result<Option<Vec<(Text, Dat
     for field in fields.as_slice() {
         match data_of(alloc, &field.1)? {
             None => return Ok(None),
-            Some(tree) => {
+            Some(data) => {
                 let key = field.0.copy()?;
-                made.push((key, tree))?;
+                made.push(Field { key, data })?;
             }
         }
     }
