@@ -17,7 +17,7 @@ fields_of-loop-key-preserved t c =
     let e : Entry = (c.in-Some.key.now, c.in-Some.member.now) in
     let left = c.next.new.self in
     let named : c.new-key.result ≡ string_bytes e.0 = search rules in
-    fields_step c.loop-key.made.items c.push.new.self.items (record { key = c.new-key.result; data = c.in-Some-2.data }) e left _ c.in_ok-push-in-Some-2.ensures.items named
+    fields_step c.loop-key.made.items c.push.new.self.items (record { key = c.new-key.result; «data» = c.in-Some-2.data }) e left _ c.in_ok-push-in-Some-2.ensures.items named
     (sym (rw c.in-Some-2.is at c.in_ok-data_of.ensures)) (rw c.in-Some.ensures.steps at c.loop-key.invariant)
 
 pub fields_of-returns : goal.fields_of-returns

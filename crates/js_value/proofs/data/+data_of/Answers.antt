@@ -14,7 +14,7 @@ data_of_values-returns t c =
 
 pub data_of_fields-loop-field-preserved : goal.data_of_fields-loop-field-preserved
 data_of_fields-loop-field-preserved t c =
-    fields_step c.loop-field.made.items c.push.new.self.items (record { key = c.in_ok-key-in-Some.key; data = c.in-Some.data }) c.field-item.result c.as_slice-field-items.result.now c.loop-field.field-index _ (omega arith) c.field-item.is c.in_ok-push-in-Some.ensures.items
+    fields_step c.loop-field.made.items c.push.new.self.items (record { key = c.in_ok-key-in-Some.key; «data» = c.in-Some.data }) c.field-item.result c.as_slice-field-items.result.now c.loop-field.field-index _ (omega arith) c.field-item.is c.in_ok-push-in-Some.ensures.items
     (c.in_ok-key-in-Some.ensures ∙ c.deref.ensures) (sym (rw c.in-Some.is at c.in_ok-data_of.ensures)) c.loop-field.invariant
 
 pub data_of_fields-returns : goal.data_of_fields-returns
