@@ -1,10 +1,5 @@
 -- Texts, whole numbers, data and events may cross threads.
-use denote.RattleType.{RattleType}
-use denote.Struct.Tuple.{Tuple, tuple_type}
-use denote.Struct.Field.{row_field}
 use denote.Param.Send.{IsSend, IsSync, sendable}
-use denote.Param.SendFields.{declared_send, declared_sync, as_row_send, as_row_sync}
-use mathlib.Core.List.{[], ◌∷◌}
 use Rattle.std.specs.contracts.sync.Arc as Arc
 use Rattle.std.specs.contracts.alloc.Global as Heap
 use Rattle.std.specs.contracts.impls.GlobalAllocator.TheImpl.{ghosts}
@@ -29,17 +24,11 @@ whole_send = search (sendable, whole.the_send)
 pub whole_sync : IsSync Whole.the_row
 whole_sync = search (sendable, whole.the_sync)
 
-pair_send : (h : RattleType) → IsSend h → IsSend (Tuple (Text.the_row ∷ h ∷ []))
-pair_send h s = declared_send (tuple_type (Text.the_row ∷ h ∷ [])) (as_row_send (row_field Text.the_row) text_send, (as_row_send (row_field h) s, tt))
-
-pair_sync : (h : RattleType) → IsSync h → IsSync (Tuple (Text.the_row ∷ h ∷ []))
-pair_sync h s = declared_sync (tuple_type (Text.the_row ∷ h ∷ [])) (as_row_sync (row_field Text.the_row) text_sync, (as_row_sync (row_field h) s, tt))
-
 data_send : IsSend (Data.the_field).row
-data_send = data_knot.send-Data (search sendable) (search (sendable, whole_send)) (search (sendable, text_send)) Vec-send (λ h s. Vec-send _ (pair_send h s))
+data_send = data_knot.send-Data (search sendable) (search (sendable, whole_send)) (search (sendable, text_send)) Vec-send
 
 data_sync : IsSync (Data.the_field).row
-data_sync = data_knot.sync-Data (search sendable) (search (sendable, whole_sync)) (search (sendable, text_sync)) Vec-sync (λ h s. Vec-sync _ (pair_sync h s))
+data_sync = data_knot.sync-Data (search sendable) (search (sendable, whole_sync)) (search (sendable, text_sync)) Vec-sync
 
 pub event_send : IsSend Event.the_row
 event_send = search (sendable, crosses, data_send, text_send) depth 18

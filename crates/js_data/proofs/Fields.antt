@@ -1,6 +1,6 @@
 -- The plain form of a field, and of fields that begin with it.
 use Rattle.std.proofs.Common.{◌≡◌, ℕ, rules, List, ◌∷◌, ap}
-use Rattle.js_data.specs.Data.{field}
+use Rattle.js_data.specs.Data.{PlainData, field}
 use Rattle.js_data.specs.Views.{plain_data, plain_field, data_fields_view}
 use Rattle.js_data.specs.declared.data.Field.{Field, fold_out-Field}
 
