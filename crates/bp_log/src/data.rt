@@ -6,7 +6,7 @@ ghost use Rattle.js_data.specs.Views.{plain_data, data_list_view, data_fields_vi
 
 use crate::Memory;
 use crate::behind::push_quoted;
-use js_data::{Data, Field, Text, Whole};
+use js_data::{Data, Field, Whole};
 use std::alloc::Global;
 
 /// Appends a comma, where something stands before.

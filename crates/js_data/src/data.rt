@@ -35,8 +35,8 @@ pub struct Field {
     pub data: Data,
 }
 
-// Each is let go by one call, written out: so a function that lets data or a field go has one thing to show for
-// it, and not one for each kind or part.
+// Each is let go by one call, written out: so a function that lets data or a field go has one thing to
+// show for it, and not one for each kind or part.
 impl Drop for Data {
     #[cycle(data)]
     fn drop(self) {

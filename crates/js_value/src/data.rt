@@ -47,10 +47,7 @@ fn values_of_data(alloc: Global, items: &Vec<Data>) -> Result<Vec<Value>, Memory
 }
 
 #[cycle(value_of)]
-fn fields_of_data(
-    alloc: Global,
-    fields: &Vec<Field>,
-) -> Result<Vec<(Arc<Text>, Value)>, Memory>
+fn fields_of_data(alloc: Global, fields: &Vec<Field>) -> Result<Vec<(Arc<Text>, Value)>, Memory>
     requires { AreSortedDataFields (data_fields_view fields.now.items) }
     ensures fields { IfOk result (λ v. value_fields_view v.items
         ≡ data_value_fields (data_fields_view fields.now.items)) }
