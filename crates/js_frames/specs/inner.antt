@@ -3,3 +3,4 @@ pub mod Leads
 pub mod Reading
 pub mod Giving
 pub mod Doing
+pub mod Stopping

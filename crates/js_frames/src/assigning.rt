@@ -20,7 +20,6 @@ use crate::calls::function_of;
 use crate::engine::Engine;
 use crate::frame::{Frame, Part};
 use crate::ground::Ground;
-use crate::leaves::AGAIN_DEPTH;
 use crate::operators::{op_before, step_for};
 use crate::slots::Slots;
 use crate::step::{Step, answered, failed, give};
@@ -211,10 +210,9 @@ impl Engine {
             (waits_for (here base.now self.old) (Frame.Waiting (Part.Assigned slot line)) part)
             self.new result }
     {
-        let found = self.begin_leaf(base, part, AGAIN_DEPTH)?;
-        match found {
-            None => self.wait(part, Frame::Waiting(Part::Assigned(slot, line))),
-            Some(value) => self.assigned(base, slot, line, value),
+        match self.begin_part(base, part) {
+            Ok(value) => self.assigned(base, slot, line, value),
+            Err(stop) => self.suspend(Frame::Waiting(Part::Assigned(slot, line)), stop),
         }
     }
 

@@ -38,7 +38,7 @@ fn literal(text: &Arc<Text>, line: u32) -> Result<Step, Memory>
 
 /// What waits for the left side of an operator.
 #[inline(always)]
-fn operand(operator: Operator, right: u32, number: u32) -> Frame
+pub(crate) fn operand(operator: Operator, right: u32, number: u32) -> Frame
     ensures { result ≡ operand_frame operator right number }
 {
     match operator {

@@ -11,7 +11,6 @@ ghost use Rattle.js_frames.specs.inner.Leads.{Goes};
 use crate::engine::Engine;
 use crate::frame::{Frame, Part, Sequence};
 use crate::ground::Ground;
-use crate::leaves::MOST_DEPTH;
 use crate::nodes::node_of;
 use crate::step::{Step, leave};
 use crate::values::number_at;
@@ -104,8 +103,8 @@ impl Engine {
         let mut at = place;
         while let Some(statement) = number_at(statements_of(base, sequence), at) {
             at += 1;
-            if !self.state_at_once(base, statement) {
-                return self.wait(statement, Frame::Waiting(Part::Statements(sequence, at)));
+            if let Err(stop) = self.state_at_once(base, statement) {
+                return self.suspend(Frame::Waiting(Part::Statements(sequence, at)), stop);
             }
         }
         Ok(leave())
@@ -136,15 +135,14 @@ impl Engine {
             match declarator.value {
                 None => self.declare_without(*kind, declarator.variable),
                 Some(part) => {
-                    let found = self.begin_leaf(base, part, MOST_DEPTH)?;
-                    match found {
-                        None => {
-                            return self.wait(
-                                part,
+                    match self.begin_part(base, part) {
+                        Ok(value) => self.put(declarator.variable, value),
+                        Err(stop) => {
+                            return self.suspend(
                                 Frame::Waiting(Part::Declared(number, declarator.variable, at)),
+                                stop,
                             );
                         }
-                        Some(value) => self.put(declarator.variable, value),
                     }
                 }
             }

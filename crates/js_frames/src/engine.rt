@@ -18,6 +18,8 @@ pub(crate) struct Engine {
     pub(crate) alloc: Global,
     pub(crate) mode: Mode,
     pub(crate) stack: Vec<Frame>,
+    /// What waits within a part that stopped, the outermost last, until it goes onto the stack.
+    pub(crate) path: Vec<Frame>,
     pub(crate) slots: Slots,
     /// At the top level the constants so far.
     pub(crate) constants: Option<Constants>,
@@ -37,6 +39,7 @@ impl Drop for Engine {
             alloc: _,
             mode: _,
             stack: _,
+            path: _,
             slots: _,
             constants: _,
             calls: _,
@@ -63,6 +66,7 @@ impl Engine {
             alloc,
             mode,
             stack: Vec::new(alloc),
+            path: Vec::new(alloc),
             slots: Slots::new(alloc),
             constants,
             calls: 0,
@@ -135,6 +139,7 @@ impl Engine {
             alloc,
             mode: _,
             stack: _,
+            path: _,
             slots: _,
             constants,
             calls: _,

@@ -15,6 +15,7 @@ mod for_each;
 mod forms;
 mod frame;
 mod give;
+mod giving;
 mod ground;
 mod leaves;
 mod loops;
@@ -26,6 +27,7 @@ mod parts;
 mod settle;
 mod slots;
 mod step;
+mod stop;
 mod values;
 
 pub use crossing::{ground_crosses, machine_moves};

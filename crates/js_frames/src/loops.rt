@@ -12,7 +12,6 @@ ghost use Rattle.js_frames.specs.inner.Leads.{Goes, waits_for};
 use crate::engine::Engine;
 use crate::frame::{Frame, Iteration, Loop, Part};
 use crate::ground::Ground;
-use crate::leaves::MOST_DEPTH;
 use crate::step::{Completion, Step, leave, mistyped};
 use crate::values::item_at;
 use js_data::Memory;
@@ -67,10 +66,9 @@ impl Engine {
             (waits_for (here base.now self.old) (Frame.Waiting (Part.Tested cycle)) part)
             self.new result }
     {
-        let found = self.begin_leaf(base, part, MOST_DEPTH)?;
-        match found {
-            None => self.wait(part, Frame::Waiting(Part::Tested(cycle))),
-            Some(value) => self.tested(base, cycle, value),
+        match self.begin_part(base, part) {
+            Ok(value) => self.tested(base, cycle, value),
+            Err(stop) => self.suspend(Frame::Waiting(Part::Tested(cycle)), stop),
         }
     }
 

@@ -23,7 +23,6 @@ ghost use Rattle.js_frames.specs.inner.Leads.{Goes, Becomes};
 use crate::engine::Engine;
 use crate::frame::{Frame, Part};
 use crate::ground::Ground;
-use crate::leaves::MOST_DEPTH;
 use crate::nodes::node_of;
 use crate::operators::{op_for, unary_for};
 use crate::step::{Step, answered, failed, mistyped};
@@ -174,10 +173,11 @@ impl Engine {
         let node = node_of(base, number);
         let mut values = done;
         while let Some(part) = part_at(&node.form, values.len()) {
-            let found = self.begin_leaf(base, part, MOST_DEPTH)?;
-            match found {
-                None => return self.wait(part, Frame::Waiting(Part::Further(number, values))),
-                Some(value) => values.push(value)?,
+            match self.begin_part(base, part) {
+                Ok(value) => values.push(value)?,
+                Err(stop) => {
+                    return self.suspend(Frame::Waiting(Part::Further(number, values)), stop);
+                }
             }
         }
         self.combine(base, node, values)
