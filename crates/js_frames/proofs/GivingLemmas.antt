@@ -1,29 +1,33 @@
 -- Parts that give a value at once.
 use Rattle.std.proofs.Common.{◌≡◌, ℕ, ◌-◌, ◌<◌, Bool, true, false, cond, not, [], ◌∷◌, Some, None, Result, Ok, refl, sym, ap, ◌∙◌, subst, arith}
-use Rattle.std.specs.Prelude.{IfOk, slice_get}
+use Rattle.std.specs.Prelude.{IfOk, reverse, slice_get}
 use Rattle.std.specs.declared.alloc.AllocError.{AllocError}
-use Rattle.js_tree.specs.declared.tree.Sign.{Sign}
 use Rattle.js_tree.specs.declared.tree.Operator.{Operator}
 use Rattle.js_tree.specs.declared.tree.Operator.TheVariants as operator
 use Rattle.js_value.specs.Value.{PlainValue, is_truthy}
+use Rattle.js_value.specs.Views.{plain_value}
+use Rattle.js_value.specs.declared.value.Value.{Value}
 use Rattle.js_value.specs.declared.op.Op.{Op}
-use Rattle.js_ops.specs.Operators.{value_of, unary_of}
+use Rattle.js_ops.specs.Operators.{value_of}
 use Rattle.js_program.specs.PlainProgram as p
-use Rattle.js_program.specs.PlainProgram.{PlainNode}
+use Rattle.js_program.specs.PlainProgram.{PlainNode, PlainProgram}
 use Rattle.js_meaning.specs.State as js
 use Rattle.js_meaning.specs.State.{State, Setting, gives, answered, ◌>>=◌}
 use Rattle.js_meaning.specs.Calls.{in_order}
-use Rattle.js_meaning.specs.Expressions.{unary_for, op_for, by_rule, combines}
+use Rattle.js_meaning.specs.Expressions.{op_for, by_rule, combines}
 use Rattle.js_meaning.specs.Meaning.{does, does_node, eval, iterations_of}
 use Rattle.js_meaning.proofs.Bound.{eval_begins}
 use Rattle.js_frames.specs.declared.step.Step.{Step}
 use Rattle.js_frames.specs.declared.frame.Part.{Part}
+use Rattle.js_frames.specs.declared.frame.Part.TheVariants.{Second}
 use Rattle.js_frames.specs.declared.frame.Frame.TheVariants.{Waiting}
 use Rattle.js_frames.specs.Places.{Place, Beside, setting_at, state_at}
-use Rattle.js_frames.specs.Frames.{rest, resume, plug}
-use Rattle.js_frames.specs.Fits.{StackFits}
+use Rattle.js_frames.specs.Frames.{parts_from, rest, resume, plug}
+use Rattle.js_frames.specs.Fits.{IsNode, HasForm, IsDouble, StackFits}
 use Rattle.js_frames.specs.inner.Leads.{Within, Leads, node_does, waits_for}
 use Rattle.js_frames.specs.inner.Giving.{Gave, with_fuel, skips, value_by}
+use Rattle.js_frames.specs.inner.Stopping.{right_frames}
+use Rattle.js_frames.proofs.InOrder.{parts_wait}
 use Rattle.js_frames.proofs.Steps.{OnlyGives, begins_one, within_trans, on_ok}
 
 -- an operator that is no `||` and no `&&` has the values of both sides, in order
@@ -44,15 +48,14 @@ both_sides g line left right operator.Multiply op s e = refl
 both_sides g line left right operator.Divide op s e = refl
 both_sides g line left right operator.Remainder op s e = refl
 
--- the value of both sides, by an operator that is no `||` and no `&&`
-values_both : (g : Setting) (line left right : ℕ) (o : Operator) (op : Op) (a b x : PlainValue) (s between last : State) → op_for o ≡ Some op → eval g left s ≡ gives a between → eval g right between ≡ gives b last → value_of op a b ≡ Ok x → does g (eval g) (iterations_of g) line (p.binary o left right) s ≡ gives x last
-values_both g line left right o op a b x s between last rule l r v =
+-- the answer of an operator that is no `||` and no `&&`
+both_answer : (g : Setting) (line left right : ℕ) (o : Operator) (op : Op) (a b : PlainValue) (s between last : State) → op_for o ≡ Some op → eval g left s ≡ gives a between → eval g right between ≡ gives b last → does g (eval g) (iterations_of g) line (p.binary o left right) s ≡ answered line (value_of op a b) last
+both_answer g line left right o op a b s between last rule l r =
     let made = combines g (eval g) line (p.binary o left right) in
     both_sides g line left right o op s rule
     ∙ ap (λ q. q >>= λ y. in_order (eval g) (right ∷ []) (y ∷ []) made) l
     ∙ ap (λ q. q >>= λ y. made (a ∷ y ∷ [])) r
     ∙ ap (λ q. answered line (by_rule q a b) last) rule
-    ∙ ap (λ q. answered line q last) v
 
 not_true : (t : Bool) → not t ≡ true → t ≡ false
 not_true true e = let no : false ≡ true = e in cc
@@ -84,27 +87,65 @@ has_left g line left right operator.Multiply a s now e l = let no : false ≡ tr
 has_left g line left right operator.Divide a s now e l = let no : false ≡ true = e in cc
 has_left g line left right operator.Remainder a s now e l = let no : false ≡ true = e in cc
 
--- one that does not has the value of both
-has_both : (g : Setting) (line left right : ℕ) (o : Operator) (a b x : PlainValue) (s between last : State) → skips o a ≡ false → eval g left s ≡ gives a between → eval g right between ≡ gives b last → value_by (op_for o) a b ≡ Ok x → does g (eval g) (iterations_of g) line (p.binary o left right) s ≡ gives x last
-has_both g line left right operator.Or a b x s between last e l r v =
+-- one that does not has the answer of both
+pub has_both : (g : Setting) (line left right : ℕ) (o : Operator) (a b : PlainValue) (s between last : State) → skips o a ≡ false → eval g left s ≡ gives a between → eval g right between ≡ gives b last → does g (eval g) (iterations_of g) line (p.binary o left right) s ≡ answered line (value_by (op_for o) a b) last
+has_both g line left right operator.Or a b s between last e l r =
     ap (λ q. q >>= λ w. cond (is_truthy w) (gives w) (eval g right)) l
-    ∙ ap (λ t. cond t (gives a) (eval g right) between) e ∙ r ∙ ap (λ q. answered line q last) v
-has_both g line left right operator.And a b x s between last e l r v =
+    ∙ ap (λ t. cond t (gives a) (eval g right) between) e ∙ r
+has_both g line left right operator.And a b s between last e l r =
     ap (λ q. q >>= λ w. cond (is_truthy w) (eval g right) (gives w)) l
-    ∙ ap (λ t. cond t (eval g right) (gives a) between) (not_false (is_truthy a) e) ∙ r ∙ ap (λ q. answered line q last) v
-has_both g line left right operator.Same a b x s between last e l r v = values_both g line left right operator.Same _ a b x s between last refl l r v
-has_both g line left right operator.NotSame a b x s between last e l r v = values_both g line left right operator.NotSame _ a b x s between last refl l r v
-has_both g line left right operator.Equal a b x s between last e l r v = values_both g line left right operator.Equal _ a b x s between last refl l r v
-has_both g line left right operator.NotEqual a b x s between last e l r v = values_both g line left right operator.NotEqual _ a b x s between last refl l r v
-has_both g line left right operator.Less a b x s between last e l r v = values_both g line left right operator.Less _ a b x s between last refl l r v
-has_both g line left right operator.LessOrEqual a b x s between last e l r v = values_both g line left right operator.LessOrEqual _ a b x s between last refl l r v
-has_both g line left right operator.Greater a b x s between last e l r v = values_both g line left right operator.Greater _ a b x s between last refl l r v
-has_both g line left right operator.GreaterOrEqual a b x s between last e l r v = values_both g line left right operator.GreaterOrEqual _ a b x s between last refl l r v
-has_both g line left right operator.Add a b x s between last e l r v = values_both g line left right operator.Add _ a b x s between last refl l r v
-has_both g line left right operator.Subtract a b x s between last e l r v = values_both g line left right operator.Subtract _ a b x s between last refl l r v
-has_both g line left right operator.Multiply a b x s between last e l r v = values_both g line left right operator.Multiply _ a b x s between last refl l r v
-has_both g line left right operator.Divide a b x s between last e l r v = values_both g line left right operator.Divide _ a b x s between last refl l r v
-has_both g line left right operator.Remainder a b x s between last e l r v = values_both g line left right operator.Remainder _ a b x s between last refl l r v
+    ∙ ap (λ t. cond t (eval g right) (gives a) between) (not_false (is_truthy a) e) ∙ r
+has_both g line left right operator.Same a b s between last e l r = both_answer g line left right operator.Same _ a b s between last refl l r
+has_both g line left right operator.NotSame a b s between last e l r = both_answer g line left right operator.NotSame _ a b s between last refl l r
+has_both g line left right operator.Equal a b s between last e l r = both_answer g line left right operator.Equal _ a b s between last refl l r
+has_both g line left right operator.NotEqual a b s between last e l r = both_answer g line left right operator.NotEqual _ a b s between last refl l r
+has_both g line left right operator.Less a b s between last e l r = both_answer g line left right operator.Less _ a b s between last refl l r
+has_both g line left right operator.LessOrEqual a b s between last e l r = both_answer g line left right operator.LessOrEqual _ a b s between last refl l r
+has_both g line left right operator.Greater a b s between last e l r = both_answer g line left right operator.Greater _ a b s between last refl l r
+has_both g line left right operator.GreaterOrEqual a b s between last e l r = both_answer g line left right operator.GreaterOrEqual _ a b s between last refl l r
+has_both g line left right operator.Add a b s between last e l r = both_answer g line left right operator.Add _ a b s between last refl l r
+has_both g line left right operator.Subtract a b s between last e l r = both_answer g line left right operator.Subtract _ a b s between last refl l r
+has_both g line left right operator.Multiply a b s between last e l r = both_answer g line left right operator.Multiply _ a b s between last refl l r
+has_both g line left right operator.Divide a b s between last e l r = both_answer g line left right operator.Divide _ a b s between last refl l r
+has_both g line left right operator.Remainder a b s between last e l r = both_answer g line left right operator.Remainder _ a b s between last refl l r
+
+-- what waits for the right side of one that does not
+right_second : (g : Setting) (n line left right : ℕ) (o : Operator) (op : Op) (first : Value) (s between : State) → op_for o ≡ Some op → slice_get g.base.program.nodes n ≡ Some (record { line = line; form = p.binary o left right }) → eval g left s ≡ gives (plain_value first) between → does g (eval g) (iterations_of g) line (p.binary o left right) s ≡ resume g (Waiting (Second n first)) (eval g right between)
+unfolding rest resume
+right_second g n line left right o op first s between rule at l =
+    let made = combines g (eval g) line (p.binary o left right) in
+    both_sides g line left right o op s rule
+    ∙ ap (λ q. q >>= λ y. in_order (eval g) (right ∷ []) (y ∷ []) made) l
+    ∙ ap (λ q. parts_from g q (plain_value first ∷ []) between) (sym at)
+    ∙ sym (parts_wait g (slice_get g.base.program.nodes n) (record { line = line; form = p.binary o left right }) at (plain_value first ∷ []) right refl (rest g (Second n first)) (λ x now. refl) between)
+
+pub right_waits : (g : Setting) (n line left right : ℕ) (o : Operator) (first : Value) (s between : State) → slice_get g.base.program.nodes n ≡ Some (record { line = line; form = p.binary o left right }) → skips o (plain_value first) ≡ false → eval g left s ≡ gives (plain_value first) between → does g (eval g) (iterations_of g) line (p.binary o left right) s ≡ plug g (reverse (right_frames o n first)) (eval g right between)
+unfolding plug
+right_waits g n line left right operator.Or first s between at e l =
+    ap (λ q. q >>= λ w. cond (is_truthy w) (gives w) (eval g right)) l
+    ∙ ap (λ t. cond t (gives (plain_value first)) (eval g right) between) e
+right_waits g n line left right operator.And first s between at e l =
+    ap (λ q. q >>= λ w. cond (is_truthy w) (eval g right) (gives w)) l
+    ∙ ap (λ t. cond t (eval g right) (gives (plain_value first)) between) (not_false (is_truthy (plain_value first)) e)
+right_waits g n line left right operator.Same first s between at e l = right_second g n line left right operator.Same _ first s between refl at l
+right_waits g n line left right operator.NotSame first s between at e l = right_second g n line left right operator.NotSame _ first s between refl at l
+right_waits g n line left right operator.Equal first s between at e l = right_second g n line left right operator.Equal _ first s between refl at l
+right_waits g n line left right operator.NotEqual first s between at e l = right_second g n line left right operator.NotEqual _ first s between refl at l
+right_waits g n line left right operator.Less first s between at e l = right_second g n line left right operator.Less _ first s between refl at l
+right_waits g n line left right operator.LessOrEqual first s between at e l = right_second g n line left right operator.LessOrEqual _ first s between refl at l
+right_waits g n line left right operator.Greater first s between at e l = right_second g n line left right operator.Greater _ first s between refl at l
+right_waits g n line left right operator.GreaterOrEqual first s between at e l = right_second g n line left right operator.GreaterOrEqual _ first s between refl at l
+right_waits g n line left right operator.Add first s between at e l = right_second g n line left right operator.Add _ first s between refl at l
+right_waits g n line left right operator.Subtract first s between at e l = right_second g n line left right operator.Subtract _ first s between refl at l
+right_waits g n line left right operator.Multiply first s between at e l = right_second g n line left right operator.Multiply _ first s between refl at l
+right_waits g n line left right operator.Divide first s between at e l = right_second g n line left right operator.Divide _ first s between refl at l
+right_waits g n line left right operator.Remainder first s between at e l = right_second g n line left right operator.Remainder _ first s between refl at l
+
+pub right_fits : (program : PlainProgram) (o : Operator) (n : ℕ) (first : Value) → IsNode program n → HasForm IsDouble program n → StackFits program (reverse (right_frames o n first))
+unfolding StackFits
+right_fits program operator.Or n first i h = tt
+right_fits program operator.And n first i h = tt
+right_fits program _ n first i h = ((i, h), tt)
 
 module _ (base : js.Ground) where
   module _ (m : Place) where
@@ -130,50 +171,21 @@ module _ (base : js.Ground) where
         ∙ begins_one fuel (node_does g n) (state_at (with_fuel m fuel) beside) some
         ∙ ap (λ q. does_node g (eval g) (iterations_of g) q (state_at (with_fuel m (fuel - 1)) beside)) at
 
-    -- an operator of one that gave a value
-    pub gave_unary : (n part line : ℕ) (sign : Sign) (fuel last : ℕ) (a x : PlainValue) → slice_get base.program.nodes n ≡ Some (record { line = line; form = p.unary sign part }) → m.floor < fuel → Gave base (with_fuel m (fuel - 1)) part a (with_fuel m last) → unary_of (unary_for sign) a ≡ Ok x → Gave base (with_fuel m fuel) n x (with_fuel m last)
-    gave_unary n part line sign fuel last a x at room l v =
-        let g = setting_at base m in
-        let made = combines g (eval g) line (p.unary sign part) in
-        let some : 0 < fuel = omega arith in
-        let first : last < fuel - 1 = l.less in record {
-          same = λ beside.
-              begins_here n fuel (record { line = line; form = p.unary sign part }) beside at some
-              ∙ ap (λ q. q >>= λ y. made (y ∷ [])) (l.same beside)
-              ∙ ap (λ q. answered line q (state_at (with_fuel m last) beside)) v;
-          place = refl;
-          less = omega arith;
-          room = l.room;
-        }
+    -- a node that may begin does so
+    pub begins_at : (n : ℕ) (node : PlainNode) (beside : Beside) → slice_get base.program.nodes n ≡ Some node → m.floor < m.fuel → (let g = setting_at base m in eval g n (state_at m beside) ≡ does g (eval g) (iterations_of g) node.line node.form (state_at (with_fuel m (m.fuel - 1)) beside))
+    begins_at n node beside at room = let some : 0 < m.fuel = omega arith in begins_here n m.fuel node beside at some
 
     -- an operator that skipped its right side
-    pub gave_left : (n left right line : ℕ) (o : Operator) (fuel last : ℕ) (a : PlainValue) → slice_get base.program.nodes n ≡ Some (record { line = line; form = p.binary o left right }) → skips o a ≡ true → m.floor < fuel → Gave base (with_fuel m (fuel - 1)) left a (with_fuel m last) → Gave base (with_fuel m fuel) n a (with_fuel m last)
-    gave_left n left right line o fuel last a at skipped room l =
+    pub gave_left : (n left right line : ℕ) (o : Operator) (a : PlainValue) (mid : Place) → slice_get base.program.nodes n ≡ Some (record { line = line; form = p.binary o left right }) → skips o a ≡ true → m.floor < m.fuel → Gave base (with_fuel m (m.fuel - 1)) left a mid → Gave base m n a mid
+    gave_left n left right line o a mid at skipped room l =
         let g = setting_at base m in
-        let some : 0 < fuel = omega arith in
-        let first : last < fuel - 1 = l.less in record {
+        let first : mid.fuel < m.fuel - 1 = l.less in record {
           same = λ beside.
-              begins_here n fuel (record { line = line; form = p.binary o left right }) beside at some
-              ∙ has_left g line left right o a (state_at (with_fuel m (fuel - 1)) beside) (state_at (with_fuel m last) beside) skipped (l.same beside);
-          place = refl;
+              begins_at n (record { line = line; form = p.binary o left right }) beside at room
+              ∙ has_left g line left right o a (state_at (with_fuel m (m.fuel - 1)) beside) (state_at mid beside) skipped (l.same beside);
+          place = l.place;
           less = omega arith;
           room = l.room;
-        }
-
-    -- an operator of both sides that gave a value
-    pub gave_both : (n left right line : ℕ) (o : Operator) (fuel between last : ℕ) (a b x : PlainValue) → slice_get base.program.nodes n ≡ Some (record { line = line; form = p.binary o left right }) → skips o a ≡ false → m.floor < fuel → Gave base (with_fuel m (fuel - 1)) left a (with_fuel m between) → Gave base (with_fuel m between) right b (with_fuel m last) → value_by (op_for o) a b ≡ Ok x → Gave base (with_fuel m fuel) n x (with_fuel m last)
-    gave_both n left right line o fuel between last a b x at follows room l r v =
-        let g = setting_at base m in
-        let some : 0 < fuel = omega arith in
-        let first : between < fuel - 1 = l.less in
-        let second : last < between = r.less in record {
-          same = λ beside.
-              let s : ℕ → State = λ k. state_at (with_fuel m k) beside in
-              begins_here n fuel (record { line = line; form = p.binary o left right }) beside at some
-              ∙ has_both g line left right o a b x (s (fuel - 1)) (s between) (s last) follows (l.same beside) (r.same beside) v;
-          place = refl;
-          less = omega arith;
-          room = r.room;
         }
 
   module _ (old mid : Place) (n : ℕ) (x : PlainValue) (v : Gave base old n x mid) where

@@ -1,6 +1,6 @@
 -- Variables of the machine.
-use Rattle.std.proofs.Common.{◌≡◌, ℕ, zero, suc, ◌+◌, drop, List, [], ◌∷◌, Option, Some, None, Result, refl, sym, ap, ◌∙◌, subst}
-use Rattle.std.specs.Prelude.{IfOk, slice_get}
+use Rattle.std.proofs.Common.{◌≡◌, ℕ, zero, suc, ◌+◌, drop, List, [], ◌∷◌, ◌++◌, Option, Some, None, Result, refl, sym, ap, ◌∙◌, subst}
+use Rattle.std.specs.Prelude.{IfOk, reverse, slice_get}
 use Rattle.js_value.specs.Value.{PlainValue, undefined}
 use Rattle.js_program.specs.declared.node.Variable.{Variable}
 use Rattle.js_program.specs.declared.node.Variable.TheVariants.{Slot, Constant}
@@ -16,16 +16,19 @@ use Rattle.js_program.specs.PlainProgram.{PlainNode, PlainDeclared}
 use Rattle.std.specs.declared.alloc.AllocError.{AllocError}
 use Rattle.js_frames.specs.declared.step.Step.{Step}
 use Rattle.js_frames.specs.Frames.{rest, resume, plug, declares_from, declaring_from}
-use Rattle.js_frames.specs.inner.Leads.{Rests, Within, Leads, pushed}
+use Rattle.js_frames.specs.inner.Leads.{Rests, Within, Leads, waits_for}
 use Rattle.js_frames.specs.inner.Giving.{Gave}
+use Rattle.js_frames.specs.inner.Stopping.{StopsAs, IsStepOf}
 use Rattle.std.specs.List.{filter_map, cons_option}
-use Rattle.js_frames.specs.declared.step.Step.TheVariants.{Begin}
+use Rattle.js_frames.specs.declared.stop.Stop.{Stop}
+use Rattle.js_frames.specs.declared.frame.Frame.{Frame}
 use Rattle.js_frames.specs.declared.frame.Part.TheVariants.{Declared}
 use Rattle.js_frames.specs.declared.frame.Frame.TheVariants.{Waiting}
-use Rattle.js_frames.specs.Fits.{IsNode, FrameFits, StackFits}
+use Rattle.js_frames.specs.Fits.{FrameFits, StackFits}
 use Rattle.js_frames.proofs.InOrder.{bind_twice}
 use Rattle.js_frames.proofs.Lists.{drop_at, drop_past}
-use Rattle.js_frames.proofs.Steps.{limits, within_like, within_trans, moves_ok, on_ok, wait_leads}
+use Rattle.js_frames.proofs.Steps.{limits, within_like, within_trans, moves_ok, means_ok, on_ok}
+use Rattle.js_frames.proofs.StopLemmas.{suspends}
 use Rattle.js_frames.proofs.GivingLemmas.{gave_within}
 use Rattle.js_frames.specs.Places.{Place, Beside, setting_at, state_at, put_at, undefined_at, held_at}
 
@@ -166,10 +169,11 @@ declarator_waits g n place node kind ds d part s found is get value =
     ∙ ap (λ f. declares_from g f place s) (sym is)
     ∙ ap (λ o. declaring_from g o place s) (sym found)
 
-pub onward_waits : (base : js.Ground) (old : Place) (n place : ℕ) (mid new : Place) (at : ℕ) (node : PlainNode) (kind : DeclareKind) (ds : List PlainDeclared) (d : PlainDeclared) (part : ℕ) (r : Result Step AllocError) → slice_get base.program.nodes n ≡ Some node → node.form ≡ p.declaration kind ds → Onward base old n place mid at → slice_get ds at ≡ Some d → d.value ≡ Some part → StackFits base.program old.stack → FrameFits base.program (Waiting (Declared n d.variable (at + 1))) → IsNode base.program part → IfOk r (λ step. (step ≡ Begin part) × (new ≡ pushed mid (Waiting (Declared n d.variable (at + 1))))) → IfOk r (λ step. Leads base old (declaring_from (setting_at base old) (slice_get base.program.nodes n) place) new step)
-onward_waits base old n place mid new at node kind ds d part r found is h get value fits frame_fits part_fits w =
+pub onward_waits : (base : js.Ground) (old : Place) (n place : ℕ) (mid between new : Place) (at : ℕ) (node : PlainNode) (kind : DeclareKind) (ds : List PlainDeclared) (d : PlainDeclared) (part : ℕ) (stop : Stop) (path : List Frame) (r : Result Step AllocError) → slice_get base.program.nodes n ≡ Some node → node.form ≡ p.declaration kind ds → Onward base old n place mid at → slice_get ds at ≡ Some d → d.value ≡ Some part → StackFits base.program old.stack → FrameFits base.program (Waiting (Declared n d.variable (at + 1))) → StopsAs base mid (eval (setting_at base mid) part) stop path between → IfOk r (IsStepOf stop) → IfOk r (λ _. new ≡ record between { stack = between.stack ++ Waiting (Declared n d.variable (at + 1)) ∷ reverse path }) → IfOk r (λ step. Leads base old (declaring_from (setting_at base old) (slice_get base.program.nodes n) place) new step)
+onward_waits base old n place mid between new at node kind ds d part stop path r found is h get value fits frame_fits stops step e =
     on_ok r (λ step l. onward_leads base old n place mid new at step h l)
-    (wait_leads base mid new (declaring_from (setting_at base old) (slice_get base.program.nodes n) at) r (Waiting (Declared n d.variable (at + 1))) part (subst (StackFits base.program) (sym h.stack_same) fits) w frame_fits part_fits
+    (means_ok base mid new (declaring_from (setting_at base old) (slice_get base.program.nodes n) at) (waits_for (setting_at base mid) (Waiting (Declared n d.variable (at + 1))) part) r
+    (suspends base mid between new (Waiting (Declared n d.variable (at + 1))) part path stop r (subst (StackFits base.program) (sym h.stack_same) fits) frame_fits stops step e)
     (λ s. declarator_waits (setting_at base mid) n at node kind ds d part s found is get value
     ∙ ap (λ g. declaring_from g (slice_get base.program.nodes n) at s) (onward_setting base old n place mid at h)))
 

@@ -103,8 +103,11 @@ impl Engine {
         let mut at = place;
         while let Some(statement) = number_at(statements_of(base, sequence), at) {
             at += 1;
-            if let Err(stop) = self.state_at_once(base, statement) {
-                return self.suspend(Frame::Waiting(Part::Statements(sequence, at)), stop);
+            match self.state_at_once(base, statement) {
+                Ok(()) => {}
+                Err(stop) => {
+                    return self.suspend(Frame::Waiting(Part::Statements(sequence, at)), stop);
+                }
             }
         }
         Ok(leave())

@@ -1,11 +1,13 @@
 //! Parts that are evaluated at once, without a frame, as far as that goes.
-ghost use Rattle.std.specs.Prelude.{◌≡◌, ◌<◌, [], Some, slice_get};
+ghost use Rattle.std.specs.Prelude.{◌≡◌, ◌<◌, [], Some, cond, slice_get};
+ghost use Rattle.js_value.specs.Value.{is_truthy};
 ghost use Rattle.js_value.specs.Views.{plain_value};
 ghost use Rattle.js_ops.specs.Operators.{value_of};
 ghost use Rattle.js_ops.specs.Answers.{AnswersAs};
-ghost use Rattle.js_program.specs.Views.{plain_node};
+ghost use Rattle.js_program.specs.PlainProgram.{parts_of};
+ghost use Rattle.js_program.specs.Views.{plain_node, plain_node_form};
 ghost use Rattle.js_frames.specs.Places.{plain_ground, place_of, held_at};
-ghost use Rattle.js_frames.specs.Fits.{IsNode};
+ghost use Rattle.js_frames.specs.Fits.{IsNode, AreNodes};
 ghost use Rattle.js_frames.specs.inner.Giving.{skips, value_by};
 ghost use Rattle.js_frames.specs.inner.Stopping.{Comes, ReadsAs, IsBehind, right_frames};
 
@@ -13,11 +15,12 @@ use crate::begin::operand;
 use crate::engine::Engine;
 use crate::frame::{Frame, Part};
 use crate::ground::Ground;
+use crate::members::data_member;
 use crate::nodes::node_of;
 use crate::operators::{op_for, unary_for};
 use crate::stop::{Stop, at_line};
 use js_data::Fault;
-use js_ops::{OpFault, Rules, apply_by, made, on_wholes, unary};
+use js_ops::{OpFault, Rules, apply_by, index, made, member, on_wholes, unary};
 use js_program::{Node, NodeForm, Variable};
 use js_tree::Operator;
 use js_value::{Op, Value, copy, truthy};
@@ -72,6 +75,14 @@ pub(crate) fn value_by(
     }
 }
 
+/// The first of two where the test is true, else the second.
+#[inline(always)]
+fn one_of(yes: u32, no: u32, test: &Value) -> u32
+    ensures { result ≡ cond (is_truthy (plain_value test.now)) yes no }
+{
+    if truthy(test) { yes } else { no }
+}
+
 impl Engine {
     /// A node that has no parts begins and gives its value; any other stops before it begins.
     #[inline(never)]
@@ -80,8 +91,9 @@ impl Engine {
         requires node { slice_get base.now.program.nodes number ≡ Some (plain_node node.now) }
         requires room { self.old.floor < self.old.fuel }
         requires path { self.old.path.items ≡ [] }
-        ensures { Comes (plain_ground base.now) (place_of self.old) number result
+        ensures comes { Comes (plain_ground base.now) (place_of self.old) number result
             self.new.path.items (place_of self.new) }
+        ensures slots { self.new.slots ≡ self.old.slots }
     {
         match &node.form {
             NodeForm::Text(text) => {
@@ -142,13 +154,15 @@ impl Engine {
         }
     }
 
-    /// A part begins and is evaluated at once: it gives its value, or stops at what cannot be done at
-    /// once, where the slice ends, or at a fault. What waits for that stands on the path.
+    /// A part begins and is evaluated at once: it gives its value, or stops at what is not done at
+    /// once, where the slice ends, or at a fault. What waits within it then stands on the path.
+    #[cycle(value)]
     pub(crate) fn value_of(&mut self, base: &Ground, number: u32, depth: u32) -> Result<Value, Stop>
         requires number { IsNode base.now.program number }
         requires path { self.old.path.items ≡ [] }
-        ensures { Comes (plain_ground base.now) (place_of self.old) number result
+        ensures comes { Comes (plain_ground base.now) (place_of self.old) number result
             self.new.path.items (place_of self.new) }
+        ensures slots { self.new.slots ≡ self.old.slots }
     {
         if self.fuel <= self.floor || depth == 0 {
             return Err(Stop::Begin(number));
@@ -163,32 +177,170 @@ impl Engine {
                 self.fuel -= 1;
                 self.value_read(base, *variable, node.line)
             }
-            NodeForm::Unary(sign, part) => {
-                self.fuel -= 1;
-                match self.value_of(base, *part, depth - 1) {
-                    Ok(value) => at_line(unary(unary_for(*sign), &value), node.line),
-                    Err(stop) => Err(self.behind(Frame::Waiting(Part::First(number)), stop)),
-                }
-            }
-            NodeForm::Binary(operator, left, right) => {
-                self.fuel -= 1;
-                match self.value_of(base, *left, depth - 1) {
-                    Ok(first) => {
-                        if skips(*operator, &first) {
-                            return Ok(first);
-                        }
-                        match self.value_of(base, *right, depth - 1) {
-                            Ok(second) => at_line(
-                                value_by(self.alloc, base.rules(), op_for(*operator), &first, second),
-                                node.line,
-                            ),
-                            Err(stop) => Err(self.behind_right(*operator, number, first, stop)),
-                        }
-                    }
-                    Err(stop) => Err(self.behind(operand(*operator, *right, number), stop)),
-                }
-            }
+            NodeForm::Binary(_, _, _) => self.value_of_sides(base, number, node, depth - 1),
+            NodeForm::Member(_, _) => self.value_of_member(base, number, node, depth - 1),
+            NodeForm::Index(_, _) => self.value_of_index(base, number, node, depth - 1),
+            NodeForm::Unary(_, _) => self.value_of_signed(base, number, node, depth - 1),
+            NodeForm::Conditional(_, _, _) => self.value_of_choice(base, number, node, depth - 1),
             _ => self.leaf(base, number, node),
+        }
+    }
+
+    /// A unary operator begins.
+    #[cycle(value)]
+    fn value_of_signed(
+        &mut self,
+        base: &Ground,
+        number: u32,
+        node: &Node,
+        depth: u32,
+    ) -> Result<Value, Stop>
+        requires number { IsNode base.now.program number }
+        requires node { slice_get base.now.program.nodes number ≡ Some (plain_node node.now) }
+        requires parts { AreNodes base.now.program (parts_of (plain_node_form node.now.form)) }
+        requires room { self.old.floor < self.old.fuel }
+        requires path { self.old.path.items ≡ [] }
+        ensures comes { Comes (plain_ground base.now) (place_of self.old) number result
+            self.new.path.items (place_of self.new) }
+        ensures slots { self.new.slots ≡ self.old.slots }
+    {
+        let NodeForm::Unary(sign, part) = &node.form else {
+            return Err(Stop::Begin(number));
+        };
+        self.fuel -= 1;
+        match self.value_of(base, *part, depth) {
+            Ok(value) => at_line(unary(unary_for(*sign), &value), node.line),
+            Err(stop) => Err(self.behind(Frame::Waiting(Part::First(number)), stop)),
+        }
+    }
+
+    /// An operator of two sides begins.
+    #[cycle(value)]
+    fn value_of_sides(
+        &mut self,
+        base: &Ground,
+        number: u32,
+        node: &Node,
+        depth: u32,
+    ) -> Result<Value, Stop>
+        requires number { IsNode base.now.program number }
+        requires node { slice_get base.now.program.nodes number ≡ Some (plain_node node.now) }
+        requires parts { AreNodes base.now.program (parts_of (plain_node_form node.now.form)) }
+        requires room { self.old.floor < self.old.fuel }
+        requires path { self.old.path.items ≡ [] }
+        ensures comes { Comes (plain_ground base.now) (place_of self.old) number result
+            self.new.path.items (place_of self.new) }
+        ensures slots { self.new.slots ≡ self.old.slots }
+    {
+        let NodeForm::Binary(operator, left, right) = &node.form else {
+            return Err(Stop::Begin(number));
+        };
+        self.fuel -= 1;
+        let first = match self.value_of(base, *left, depth) {
+            Ok(value) => value,
+            Err(stop) => return Err(self.behind(operand(*operator, *right, number), stop)),
+        };
+        if skips(*operator, &first) {
+            return Ok(first);
+        }
+        match self.value_of(base, *right, depth) {
+            Ok(second) => at_line(
+                value_by(self.alloc, base.rules(), op_for(*operator), &first, second),
+                node.line,
+            ),
+            Err(stop) => Err(self.behind_right(*operator, number, first, stop)),
+        }
+    }
+
+    /// A member begins. One of an event's data is read there, without all of the data as a value.
+    #[cycle(value)]
+    fn value_of_member(
+        &mut self,
+        base: &Ground,
+        number: u32,
+        node: &Node,
+        depth: u32,
+    ) -> Result<Value, Stop>
+        requires number { IsNode base.now.program number }
+        requires node { slice_get base.now.program.nodes number ≡ Some (plain_node node.now) }
+        requires parts { AreNodes base.now.program (parts_of (plain_node_form node.now.form)) }
+        requires room { self.old.floor < self.old.fuel }
+        requires path { self.old.path.items ≡ [] }
+        ensures comes { Comes (plain_ground base.now) (place_of self.old) number result
+            self.new.path.items (place_of self.new) }
+        ensures slots { self.new.slots ≡ self.old.slots }
+    {
+        let NodeForm::Member(part, word) = &node.form else {
+            return Err(Stop::Begin(number));
+        };
+        self.fuel -= 1;
+        match self.begin_data(base, *part) {
+            Err(_) => Err(Stop::Memory),
+            Ok(Some(event)) => at_line(data_member(self.alloc, &event, word), node.line),
+            Ok(None) => match self.value_of(base, *part, depth) {
+                Ok(value) => at_line(member(self.alloc, &value, word), node.line),
+                Err(stop) => Err(self.behind(Frame::Waiting(Part::First(number)), stop)),
+            },
+        }
+    }
+
+    /// A place of a list, or a key of fields, begins.
+    #[cycle(value)]
+    fn value_of_index(
+        &mut self,
+        base: &Ground,
+        number: u32,
+        node: &Node,
+        depth: u32,
+    ) -> Result<Value, Stop>
+        requires number { IsNode base.now.program number }
+        requires node { slice_get base.now.program.nodes number ≡ Some (plain_node node.now) }
+        requires parts { AreNodes base.now.program (parts_of (plain_node_form node.now.form)) }
+        requires room { self.old.floor < self.old.fuel }
+        requires path { self.old.path.items ≡ [] }
+        ensures comes { Comes (plain_ground base.now) (place_of self.old) number result
+            self.new.path.items (place_of self.new) }
+        ensures slots { self.new.slots ≡ self.old.slots }
+    {
+        let NodeForm::Index(part, at) = &node.form else {
+            return Err(Stop::Begin(number));
+        };
+        self.fuel -= 1;
+        let first = match self.value_of(base, *part, depth) {
+            Ok(value) => value,
+            Err(stop) => return Err(self.behind(Frame::Waiting(Part::First(number)), stop)),
+        };
+        match self.value_of(base, *at, depth) {
+            Ok(second) => at_line(index(&first, &second), node.line),
+            Err(stop) => Err(self.behind(Frame::Waiting(Part::Second(number, first)), stop)),
+        }
+    }
+
+    /// One of two by a test begins.
+    #[cycle(value)]
+    fn value_of_choice(
+        &mut self,
+        base: &Ground,
+        number: u32,
+        node: &Node,
+        depth: u32,
+    ) -> Result<Value, Stop>
+        requires number { IsNode base.now.program number }
+        requires node { slice_get base.now.program.nodes number ≡ Some (plain_node node.now) }
+        requires parts { AreNodes base.now.program (parts_of (plain_node_form node.now.form)) }
+        requires room { self.old.floor < self.old.fuel }
+        requires path { self.old.path.items ≡ [] }
+        ensures comes { Comes (plain_ground base.now) (place_of self.old) number result
+            self.new.path.items (place_of self.new) }
+        ensures slots { self.new.slots ≡ self.old.slots }
+    {
+        let NodeForm::Conditional(test, yes, no) = &node.form else {
+            return Err(Stop::Begin(number));
+        };
+        self.fuel -= 1;
+        match self.value_of(base, *test, depth) {
+            Ok(value) => self.value_of(base, one_of(*yes, *no, &value), depth),
+            Err(stop) => Err(self.behind(Frame::Waiting(Part::Choice(*yes, *no)), stop)),
         }
     }
 }

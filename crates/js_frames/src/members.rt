@@ -46,7 +46,7 @@ fn is_data(word: &Text) -> bool
 }
 
 /// The member of this name of an event's data.
-fn data_member(alloc: Global, event: &Event, name: &Text) -> Result<Value, OpFault>
+pub(crate) fn data_member(alloc: Global, event: &Event, name: &Text) -> Result<Value, OpFault>
     ensures { AnswersAs (member_of (extra_value event.now.extra) name.now) result }
 {
     // For the proof: what the event keeps.
@@ -63,12 +63,13 @@ fn data_member(alloc: Global, event: &Event, name: &Text) -> Result<Value, OpFau
 impl Engine {
     /// A part that is `data` of a variable begins, if the variable holds an event and the slice allows
     /// both to begin: the event.
-    fn begin_data(&mut self, base: &Ground, part: u32) -> Result<Option<Arc<Event>>, Memory>
+    pub(crate) fn begin_data(&mut self, base: &Ground, part: u32) -> Result<Option<Arc<Event>>, Memory>
         requires { IsNode base.now.program part }
         ensures some { IfOk result (λ found. IfSome found (λ event. GaveData
             (plain_ground base.now) (place_of self.old) part event.value (place_of self.new))) }
         ensures none { IfOk result (λ found. IfNone found
             (place_of self.new ≡ place_of self.old)) }
+        ensures slots { self.new.slots ≡ self.old.slots }
     {
         let NodeForm::Member(variable, word) = &node_of(base, part).form else {
             return Ok(None);

@@ -26,14 +26,14 @@ use Rattle.js_frames.specs.inner.Giving.{Gave}
 use Rattle.js_frames.specs.inner.Doing.{Did}
 
 -- The code that does this came to a step, for which those on the path wait, the first of them first.
--- Nothing but the fuel is another, and no more began than the slice allows.
+-- Nothing but the fuel and the variables is another, and no more began than the slice allows.
 pub record Stops (base : js.Ground) (old : Place) (o : State → Outcome) (path : List Frame)
     (new : Place) (step : Step) : Type 0 where
   pub same : (beside : Beside) →
       o (state_at old beside)
       ≡ plug (setting_at base old) (reverse path)
       (step_outcome (setting_at base old) step (state_at new beside))
-  pub place : new ≡ record old { fuel = new.fuel }
+  pub place : new ≡ record old { fuel = new.fuel; slots = new.slots }
   pub within : Within old new
   pub path_fits : StackFits base.program (reverse path)
   pub step_fits : StepFits base.program step

@@ -1,24 +1,20 @@
-use Rattle.std.proofs.Common.{◌≡◌, subst, Ok, refl}
-use Rattle.std.specs.Prelude.{IfSome, IfNone}
+use Rattle.std.proofs.Common.{Ok, refl}
 use Rattle.js_value.specs.Views.{plain_value}
 use Rattle.js_frames.specs.declared.frame.Part.TheVariants.{When}
 use Rattle.js_frames.specs.declared.frame.Frame.TheVariants.{Waiting}
 use Rattle.js_frames.specs.Places.{plain_ground, place_of}
 use Rattle.js_frames.specs.Frames.{rest}
-use Rattle.js_frames.specs.inner.Giving.{Gave}
-use Rattle.js_frames.proofs.Steps.{waits_still, picks}
 use Rattle.js_frames.proofs.GivingLemmas.{gave_fits, gave_on}
+use Rattle.js_frames.proofs.StopLemmas.{suspends}
+use Rattle.js_frames.proofs.Steps.{picks}
 use Rattle.js_frames.proofs.engine.Engine.begin_when.Goals as goal
 
-pub returns-in-None : goal.returns-in-None
-returns-in-None c =
-    waits_still (plain_ground c.args.base.now) (place_of c.args.self.now) (place_of c.begin_leaf.new.self) _ (Waiting (When c.args.body)) c.args.part c.wait.result c.requires.fits
-    (subst (λ o. IfNone o (place_of c.begin_leaf.new.self ≡ (place_of c.args.self.now))) c.in-None.is c.in_ok-found.ensures.none) c.wait.ensures c.requires.body c.requires.part
+pub returns-in-Err : goal.returns-in-Err
+returns-in-Err c =
+    suspends (plain_ground c.args.base.now) (place_of c.args.self.now) (place_of c.begin_part.new.self) (place_of c.suspend.new.self) (Waiting (When c.args.body)) c.args.part c.begin_part.new.self.path.items c.in-Err.stop c.suspend.result c.requires.fits c.requires.body c.in-Err.ensures c.suspend.ensures.step c.suspend.ensures.place
 
-pub returns-in-Some : goal.returns-in-Some
+pub returns-in-Ok : goal.returns-in-Ok
 unfolding rest
-returns-in-Some c =
-    gave_on (plain_ground c.args.base.now) (place_of c.args.self.now) (place_of c.begin_leaf.new.self) c.args.part (plain_value c.in-Some.value)
-    (subst (λ o. IfSome o (λ value. Gave (plain_ground c.args.base.now) (place_of c.args.self.now) c.args.part (plain_value value) (place_of c.begin_leaf.new.self))) c.in-Some.is c.in_ok-found.ensures.some)
-    _ (When c.args.body) (Ok c.when.result)
-    (picks (plain_ground c.args.base.now) (place_of c.begin_leaf.new.self) _ _ _ (gave_fits (plain_ground c.args.base.now) (place_of c.args.self.now) (place_of c.begin_leaf.new.self) c.args.part (plain_value c.in-Some.value) (subst (λ o. IfSome o (λ value. Gave (plain_ground c.args.base.now) (place_of c.args.self.now) c.args.part (plain_value value) (place_of c.begin_leaf.new.self))) c.in-Some.is c.in_ok-found.ensures.some) c.requires.fits) (c.when.ensures (let b = c.args.base.now in b.program) c.requires.body) (λ s. refl))
+returns-in-Ok c =
+    gave_on (plain_ground c.args.base.now) (place_of c.args.self.now) (place_of c.begin_part.new.self) c.args.part (plain_value c.in-Ok.value) c.in-Ok.ensures.1 _ (When c.args.body) (Ok c.when.result)
+    (picks (plain_ground c.args.base.now) (place_of c.begin_part.new.self) _ _ _ (gave_fits (plain_ground c.args.base.now) (place_of c.args.self.now) (place_of c.begin_part.new.self) c.args.part (plain_value c.in-Ok.value) c.in-Ok.ensures.1 c.requires.fits) (c.when.ensures (let b = c.args.base.now in b.program) c.requires.body) (λ s. refl))
