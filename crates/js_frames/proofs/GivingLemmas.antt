@@ -9,6 +9,7 @@ use Rattle.js_value.specs.Views.{plain_value}
 use Rattle.js_value.specs.declared.value.Value.{Value}
 use Rattle.js_value.specs.declared.op.Op.{Op}
 use Rattle.js_ops.specs.Operators.{value_of}
+use Rattle.js_ops.specs.Members.{index_of}
 use Rattle.js_program.specs.PlainProgram as p
 use Rattle.js_program.specs.PlainProgram.{PlainNode, PlainProgram}
 use Rattle.js_meaning.specs.State as js
@@ -140,6 +141,30 @@ right_waits g n line left right operator.Subtract first s between at e l = right
 right_waits g n line left right operator.Multiply first s between at e l = right_second g n line left right operator.Multiply _ first s between refl at l
 right_waits g n line left right operator.Divide first s between at e l = right_second g n line left right operator.Divide _ first s between refl at l
 right_waits g n line left right operator.Remainder first s between at e l = right_second g n line left right operator.Remainder _ first s between refl at l
+
+-- the answer of an index
+pub index_answer : (g : Setting) (line part at : ℕ) (a b : PlainValue) (s between last : State) → eval g part s ≡ gives a between → eval g at between ≡ gives b last → does g (eval g) (iterations_of g) line (p.index part at) s ≡ answered line (index_of a b) last
+index_answer g line part at a b s between last l r =
+    let made = combines g (eval g) line (p.index part at) in
+    ap (λ q. q >>= λ y. in_order (eval g) (at ∷ []) (y ∷ []) made) l ∙ ap (λ q. q >>= λ y. made (a ∷ y ∷ [])) r
+
+-- what waits for the second part of one
+pub index_waits : (g : Setting) (n line part at : ℕ) (first : Value) (s between : State) → slice_get g.base.program.nodes n ≡ Some (record { line = line; form = p.index part at }) → eval g part s ≡ gives (plain_value first) between → does g (eval g) (iterations_of g) line (p.index part at) s ≡ plug g (reverse (Waiting (Second n first) ∷ [])) (eval g at between)
+unfolding rest resume plug
+index_waits g n line part at first s between is l =
+    let made = combines g (eval g) line (p.index part at) in
+    ap (λ q. q >>= λ y. in_order (eval g) (at ∷ []) (y ∷ []) made) l
+    ∙ ap (λ q. parts_from g q (plain_value first ∷ []) between) (sym is)
+    ∙ sym (parts_wait g (slice_get g.base.program.nodes n) (record { line = line; form = p.index part at }) is (plain_value first ∷ []) at refl (rest g (Second n first)) (λ x now. refl) between)
+
+-- one of two
+pub one_evaluated : (g : Setting) (t : Bool) (yes no : ℕ) (s : State) → cond t (eval g yes) (eval g no) s ≡ eval g (cond t yes no) s
+one_evaluated g true yes no s = refl
+one_evaluated g false yes no s = refl
+
+pub one_fits : (program : PlainProgram) (t : Bool) (yes no : ℕ) → IsNode program yes → IsNode program no → IsNode program (cond t yes no)
+one_fits program true yes no h k = h
+one_fits program false yes no h k = k
 
 pub right_fits : (program : PlainProgram) (o : Operator) (n : ℕ) (first : Value) → IsNode program n → HasForm IsDouble program n → StackFits program (reverse (right_frames o n first))
 unfolding StackFits

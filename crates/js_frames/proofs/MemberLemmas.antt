@@ -28,6 +28,7 @@ use Rattle.js_frames.specs.Places.{Place, Beside, setting_at, state_at}
 use Rattle.js_frames.specs.Frames.{rest, resume, plug}
 use Rattle.js_frames.specs.Fits.{StackFits}
 use Rattle.js_frames.specs.inner.Leads.{Within, Leads, waits_for, leaf_of, node_does}
+use Rattle.js_frames.specs.inner.Giving.{Gave}
 use Rattle.js_frames.specs.inner.Reading.{GaveData}
 use Rattle.js_frames.proofs.Steps.{OnlyGives, begins_one, on_ok}
 use Rattle.js_frames.proofs.LeafLemmas.{leaf_gives}
@@ -60,6 +61,17 @@ module _ (base : js.Ground) (old : Place) where
             ∙ (let k : old.fuel - 1 - 1 ≡ old.fuel - 2 = omega arith in ap (λ q. gives (extra_value e.extra) (state_at (record old { fuel = q }) beside)) k);
         two_less = refl;
         room = room;
+      }
+
+  -- the same as a part that gave its value
+  pub data_gave : (mid : Place) (n : ℕ) (e : PlainEvent) → GaveData base old n e mid → Gave base old n (extra_value e.extra) mid
+  data_gave mid n e h =
+      let k : mid.fuel ≡ old.fuel - 2 = ap (λ (q : Place). q.fuel) h.two_less in
+      let room = h.room in record {
+        same = h.same;
+        place = h.two_less ∙ ap (λ f. record old { fuel = f }) (sym k);
+        less = omega arith;
+        room = omega arith;
       }
 
   pub data_fits : (mid : Place) (n : ℕ) (e : PlainEvent) → GaveData base old n e mid → StackFits base.program old.stack → StackFits base.program mid.stack

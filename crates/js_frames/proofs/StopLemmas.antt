@@ -1,14 +1,15 @@
 -- Parts that are evaluated at once, and stop.
-use Rattle.std.proofs.Common.{◌≡◌, ◌⊎◌, ℕ, ◌-◌, ◌<◌, ◌≤◌, List, [], ◌∷◌, ◌++◌, Option, Some, None, Result, Ok, Err, inl, inr, refl, sym, ap, ◌∙◌, subst, arith}
+use Rattle.std.proofs.Common.{◌≡◌, ◌⊎◌, ℕ, ◌-◌, ◌<◌, ◌≤◌, cond, List, [], ◌∷◌, ◌++◌, Option, Some, None, Result, Ok, Err, inl, inr, refl, sym, ap, ◌∙◌, subst, arith}
 use Rattle.std.specs.Prelude.{IfOk, reverse, slice_get}
 use Rattle.std.specs.declared.alloc.AllocError.{AllocError}
 use Rattle.std.proofs.lemmas.List.{append-nil, append_assoc, reverse-append}
 use Rattle.js_data.specs.declared.fault.Fault.{Fault}
 use Rattle.js_data.specs.declared.fault.Fault.TheVariants as fault
-use Rattle.js_value.specs.Value.{PlainValue}
+use Rattle.js_value.specs.Value.{PlainValue, is_truthy}
 use Rattle.js_value.specs.Views.{plain_value}
 use Rattle.js_value.specs.declared.value.Value.{Value}
 use Rattle.js_ops.specs.Made.{Answer}
+use Rattle.js_program.specs.PlainProgram as p
 use Rattle.js_program.specs.PlainProgram.{PlainNode, PlainProgram}
 use Rattle.js_meaning.specs.State as js
 use Rattle.js_meaning.specs.State.{State, Setting, Outcome, gives, breaks, answered, ◌>>=◌}
@@ -26,7 +27,7 @@ use Rattle.js_frames.specs.inner.Leads.{Rests, Within, Leads, waits_for}
 use Rattle.js_frames.specs.inner.Giving.{Gave, with_fuel}
 use Rattle.js_frames.specs.inner.Stopping.{Stops, StopsAs, Comes, ComesAs, ReadsAs, IsBehind, IsStepOf}
 use Rattle.js_frames.proofs.Steps.{limits, within_like, within_trans}
-use Rattle.js_frames.proofs.GivingLemmas.{begins_at}
+use Rattle.js_frames.proofs.GivingLemmas.{begins_at, one_evaluated}
 
 -- ---- places
 
@@ -233,3 +234,29 @@ module _ (base : js.Ground) where
         (record { same_floor = floor; less = omega arith; above = λ h. l.room })
         (λ b. begins_at base old n node b at room ∙ same (state_at begun b) (state_at mid b) (l.same b) ∙ ap (plug g (reverse frames)) (sym (second_same left right a mid l b)))
         fits s)
+
+    -- what a part comes to that is all that is left of the node
+    comes_through : (mid last : Place) (part : ℕ) (r : Result Value Stop) (path : List Frame) → mid ≡ record old { fuel = mid.fuel } → Within old mid → mid.fuel < old.fuel → ((b : Beside) → eval (setting_at base old) n (state_at old b) ≡ eval (setting_at base mid) part (state_at mid b)) → Comes base mid part r path last → Comes base old n r path last
+    unfolding plug StackFits
+    comes_through mid last part (Ok x) path place within less same k =
+        let v = k.1 in
+        let second : last.fuel < mid.fuel = v.less in
+        let floor : mid.floor ≡ old.floor = within.same_floor in
+        let above : mid.floor ≤ last.fuel = v.room in
+        (k.0, record { same = λ b. same b ∙ v.same b; place = v.place ∙ ap (λ (q : Place). record q { fuel = last.fuel }) place; less = omega arith; room = omega arith })
+    comes_through mid last part (Err s) path place within less same k =
+        subst (λ p. StopsAs base old (eval (setting_at base old) n) s p last) (append-nil path)
+        (stops_by old mid last (eval (setting_at base old) n) (eval (setting_at base mid) part) path s [] (also_slots old mid place) within same tt k)
+
+    -- one of two parts, by a test
+    pub comes_chosen : (line test yes no : ℕ) (a : PlainValue) (mid last : Place) (r : Result Value Stop) (path : List Frame) → slice_get base.program.nodes n ≡ Some (record { line = line; form = p.conditional test yes no }) → old.floor < old.fuel → Gave base begun test a mid → Comes base mid (cond (is_truthy a) yes no) r path last → Comes base old n r path last
+    comes_chosen line test yes no a mid last r path at room l k =
+        comes_through mid last (cond (is_truthy a) yes no) r path l.place
+        (let first : mid.fuel < old.fuel - 1 = l.less in record { same_floor = ap (λ (q : Place). q.floor) l.place; less = omega arith; above = λ h. l.room })
+        (let first : mid.fuel < old.fuel - 1 = l.less in omega arith)
+        (λ b.
+        let g = setting_at base old in
+        begins_at base old n (record { line = line; form = p.conditional test yes no }) b at room
+        ∙ ap (λ q. q >>= λ v. cond (is_truthy v) (eval g yes) (eval g no)) (l.same b)
+        ∙ one_evaluated g (is_truthy a) yes no (state_at mid b)
+        ∙ sym (second_same test (cond (is_truthy a) yes no) a mid l b)) k

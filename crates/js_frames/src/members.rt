@@ -70,6 +70,7 @@ impl Engine {
         ensures none { IfOk result (λ found. IfNone found
             (place_of self.new ≡ place_of self.old)) }
         ensures slots { self.new.slots ≡ self.old.slots }
+        ensures path { self.new.path.items ≡ self.old.path.items }
     {
         let NodeForm::Member(variable, word) = &node_of(base, part).form else {
             return Ok(None);
