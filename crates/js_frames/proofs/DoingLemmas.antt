@@ -63,13 +63,13 @@ unfolding rest resume
 awaits_value g line k part None before frame s is held = ap (λ f. resume g f (eval g part s)) (sym is)
 awaits_value g line k part (Some op) before frame s is held =
     ap (λ o. if_declared line o (λ v later. eval g part later >>= λ w. writes line k (value_of op v w)) s) (sym held)
-    ∙ ap (λ v. eval g part s >>= λ w. writes line k (value_of op v w)) (sym is.1.0)
-    ∙ ap (λ f. resume g f (eval g part s)) (sym is.1.1)
+    ∙ ap (λ v. eval g part s >>= λ w. writes line k (value_of op v w)) (sym is.1)
+    ∙ ap (λ f. resume g f (eval g part s)) (sym is.2)
 
 awaits_fits : (program : PlainProgram) (k line : ℕ) (o : Option Op) (before : PlainValue) (frame : Frame) → AwaitsValue o k line before frame → StackFits program (frame ∷ [])
 unfolding StackFits
 awaits_fits program k line None before frame is = subst (λ f. StackFits program (f ∷ [])) (sym is) (tt, tt)
-awaits_fits program k line (Some op) before frame is = subst (λ f. StackFits program (f ∷ [])) (sym is.1.1) (tt, tt)
+awaits_fits program k line (Some op) before frame is = subst (λ f. StackFits program (f ∷ [])) (sym is.2) (tt, tt)
 
 -- what an update gives: its new value, or the old one
 abbrev update_gives : Fix → PlainValue → PlainValue → PlainValue
@@ -119,9 +119,9 @@ module _ (base : js.Ground) (old : Place) where
     assign_waits mid new s after path path_after stops still (inr h) =
         let g = setting_at base old in
         subst (λ q. StopsAs base old (eval g n) after path_after q) (sym still)
-        (stops_behind base old begun mid (eval g n) (eval g part) path s after (h.0 ∷ []) path_after h.1.1 refl (within_one base old n room)
-        (λ b. begins_at base old n node b at room ∙ awaits_value g line k part (op_before operator) before h.0 (state_at begun b) h.1.0 held)
-        (awaits_fits base.program k line (op_before operator) before h.0 h.1.0) stops)
+        (stops_behind base old begun mid (eval g n) (eval g part) path s after (h.0 ∷ []) path_after h.2 refl (within_one base old n room)
+        (λ b. begins_at base old n node b at room ∙ awaits_value g line k part (op_before operator) before h.0 (state_at begun b) h.1 held)
+        (awaits_fits base.program k line (op_before operator) before h.0 h.1) stops)
 
   pub did_update : (n line k fuel : ℕ) (step : Change) (f : Fix) (before y : PlainValue) → slice_get base.program.nodes n ≡ Some (record { line = line; form = p.update step f k }) → old.floor < fuel → Some before ≡ in_slot k old.slots → unary_of (step_for step) before ≡ Ok y → Did base (with_fuel old fuel) n (with_slots old (fuel - 1) (slice_set old.slots k (Some y)))
   did_update n line k fuel step f before y at room held a =

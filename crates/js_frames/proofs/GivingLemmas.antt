@@ -158,13 +158,13 @@ index_waits g n line part at first s between is l =
     ∙ sym (parts_wait g (slice_get g.base.program.nodes n) (record { line = line; form = p.index part at }) is (plain_value first ∷ []) at refl (rest g (Second n first)) (λ x now. refl) between)
 
 -- one of two
-pub one_evaluated : (g : Setting) (t : Bool) (yes no : ℕ) (s : State) → cond t (eval g yes) (eval g no) s ≡ eval g (cond t yes no) s
-one_evaluated g true yes no s = refl
-one_evaluated g false yes no s = refl
+pub one_evaluated : (g : Setting) (t : Bool) (first second : ℕ) (s : State) → cond t (eval g first) (eval g second) s ≡ eval g (cond t first second) s
+one_evaluated g true first second s = refl
+one_evaluated g false first second s = refl
 
-pub one_fits : (program : PlainProgram) (t : Bool) (yes no : ℕ) → IsNode program yes → IsNode program no → IsNode program (cond t yes no)
-one_fits program true yes no h k = h
-one_fits program false yes no h k = k
+pub one_fits : (program : PlainProgram) (t : Bool) (first second : ℕ) → IsNode program first → IsNode program second → IsNode program (cond t first second)
+one_fits program true first second h k = h
+one_fits program false first second h k = k
 
 pub right_fits : (program : PlainProgram) (o : Operator) (n : ℕ) (first : Value) → IsNode program n → HasForm IsDouble program n → StackFits program (reverse (right_frames o n first))
 unfolding StackFits

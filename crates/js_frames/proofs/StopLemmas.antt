@@ -249,14 +249,14 @@ module _ (base : js.Ground) where
         (stops_by old mid last (eval (setting_at base old) n) (eval (setting_at base mid) part) path s [] (also_slots old mid place) within same tt k)
 
     -- one of two parts, by a test
-    pub comes_chosen : (line test yes no : ℕ) (a : PlainValue) (mid last : Place) (r : Result Value Stop) (path : List Frame) → slice_get base.program.nodes n ≡ Some (record { line = line; form = p.conditional test yes no }) → old.floor < old.fuel → Gave base begun test a mid → Comes base mid (cond (is_truthy a) yes no) r path last → Comes base old n r path last
-    comes_chosen line test yes no a mid last r path at room l k =
-        comes_through mid last (cond (is_truthy a) yes no) r path l.place
-        (let first : mid.fuel < old.fuel - 1 = l.less in record { same_floor = ap (λ (q : Place). q.floor) l.place; less = omega arith; above = λ h. l.room })
-        (let first : mid.fuel < old.fuel - 1 = l.less in omega arith)
+    pub comes_chosen : (line test first second : ℕ) (a : PlainValue) (mid last : Place) (r : Result Value Stop) (path : List Frame) → slice_get base.program.nodes n ≡ Some (record { line = line; form = p.conditional test first second }) → old.floor < old.fuel → Gave base begun test a mid → Comes base mid (cond (is_truthy a) first second) r path last → Comes base old n r path last
+    comes_chosen line test first second a mid last r path at room l k =
+        comes_through mid last (cond (is_truthy a) first second) r path l.place
+        (let less : mid.fuel < old.fuel - 1 = l.less in record { same_floor = ap (λ (q : Place). q.floor) l.place; less = omega arith; above = λ h. l.room })
+        (let less : mid.fuel < old.fuel - 1 = l.less in omega arith)
         (λ b.
         let g = setting_at base old in
-        begins_at base old n (record { line = line; form = p.conditional test yes no }) b at room
-        ∙ ap (λ q. q >>= λ v. cond (is_truthy v) (eval g yes) (eval g no)) (l.same b)
-        ∙ one_evaluated g (is_truthy a) yes no (state_at mid b)
-        ∙ sym (second_same test (cond (is_truthy a) yes no) a mid l b)) k
+        begins_at base old n (record { line = line; form = p.conditional test first second }) b at room
+        ∙ ap (λ q. q >>= λ v. cond (is_truthy v) (eval g first) (eval g second)) (l.same b)
+        ∙ one_evaluated g (is_truthy a) first second (state_at mid b)
+        ∙ sym (second_same test (cond (is_truthy a) first second) a mid l b)) k

@@ -35,27 +35,27 @@ value_of-returns-in-Number-clause-comes t c =
     let base = (plain_ground c.args.base.now) in
     let old : Place = (place_of c.args.self.now) in
     (c.requires.path, gave_leaf base old c.args.number _ old.fuel
-    (leaf_gives base old c.args.number (whole c.in-Number.n) (ap (leaf_of base old) c.node_of.ensures.node ∙ ap (λ f. leaf_at base old (plain_node_form f)) c.in-Number.is))
+    (leaf_gives base old c.args.number (whole c.in-Number.n) (ap (leaf_of base old) c.node_of-node.ensures.node ∙ ap (λ f. leaf_at base old (plain_node_form f)) c.in-Number.is))
     (omega arith))
 
 pub value_of-returns-in-Read-clause-comes : goal.value_of-returns-in-Read-clause-comes
 value_of-returns-in-Read-clause-comes t c =
     let base = (plain_ground c.args.base.now) in
     let old : Place = (place_of c.args.self.now) in
-    let node = c.node_of.result.now in
+    let node = c.node_of-node.result.now in
     comes_read base old (record old { fuel = old.fuel - 1 }) c.args.number node.line _ c.value_read.result _ c.value_read.ensures c.requires.path refl (omega arith) (omega arith)
     (λ b.
-    begins_at base old c.args.number _ b (c.node_of.ensures.node ∙ ap (λ f. let q : PlainNode = record { line = node.line; form = plain_node_form f } in Some q) c.in-Read.is) (omega arith)
+    begins_at base old c.args.number _ b (c.node_of-node.ensures.node ∙ ap (λ f. let q : PlainNode = record { line = node.line; form = plain_node_form f } in Some q) c.in-Read.is) (omega arith)
     ∙ ap (λ h. if_declared node.line h gives (state_at (record old { fuel = old.fuel - 1 }) b)) (held_with base c.in-Read.variable old (old.fuel - 1) b))
+
+pub value_of-returns-then-self-clause-comes : goal.value_of-returns-then-self-clause-comes
+value_of-returns-then-self-clause-comes t c = stops_here (plain_ground c.args.base.now) (place_of c.args.self.now) c.args.number _ c.requires.number c.requires.path
 
 pub value_of_signed-value_of-requires : goal.value_of_signed-value_of-requires
 value_of_signed-value_of-requires t c =
     let base = (plain_ground c.args.base.now) in
     let old : Place = (place_of c.args.self.now) in
-    (search arith, record {
-      number = part_is base old c.args.number c.args.node.now c.requires.node _ c.in-Unary.is c.requires.parts 0 _ refl;
-      path = c.requires.path;
-    })
+    (search arith, (part_is base old c.args.number c.args.node.now c.requires.node _ c.in-Unary.is c.requires.parts 0 _ refl, c.requires.path))
 
 pub value_of_signed-returns-in_default-clause-comes : goal.value_of_signed-returns-in_default-clause-comes
 value_of_signed-returns-in_default-clause-comes t c = stops_here (plain_ground c.args.base.now) (place_of c.args.self.now) c.args.number _ c.requires.number c.requires.path
@@ -84,19 +84,13 @@ pub value_of_sides-value_of-requires : goal.value_of_sides-value_of-requires
 value_of_sides-value_of-requires t c =
     let base = (plain_ground c.args.base.now) in
     let old : Place = (place_of c.args.self.now) in
-    (search arith, record {
-      number = part_is base old c.args.number c.args.node.now c.requires.node _ c.in-Binary.is c.requires.parts 0 _ refl;
-      path = c.requires.path;
-    })
+    (search arith, (part_is base old c.args.number c.args.node.now c.requires.node _ c.in-Binary.is c.requires.parts 0 _ refl, c.requires.path))
 
 pub value_of_sides-value_of-requires-2 : goal.value_of_sides-value_of-requires-2
 value_of_sides-value_of-requires-2 t c =
     let base = (plain_ground c.args.base.now) in
     let old : Place = (place_of c.args.self.now) in
-    (search arith, record {
-      number = part_is base old c.args.number c.args.node.now c.requires.node _ c.in-Binary.is c.requires.parts 1 _ refl;
-      path = c.in-Ok.ensures.comes.0;
-    })
+    (search arith, (part_is base old c.args.number c.args.node.now c.requires.node _ c.in-Binary.is c.requires.parts 1 _ refl, c.in-Ok.ensures.comes.0))
 
 pub value_of_sides-returns-in_default-clause-comes : goal.value_of_sides-returns-in_default-clause-comes
 value_of_sides-returns-in_default-clause-comes t c = stops_here (plain_ground c.args.base.now) (place_of c.args.self.now) c.args.number _ c.requires.number c.requires.path
@@ -124,31 +118,31 @@ value_of_sides-returns-then-skips-clause-comes t c =
     (c.requires.node ∙ ap (λ f. let q : PlainNode = record { line = node.line; form = plain_node_form f } in Some q) c.in-Binary.is)
     (sym c.skips.ensures ∙ c.if-skips.true) c.requires.room c.in-Ok.ensures.comes.1)
 
-pub value_of_sides-returns-in-Ok-second-clause-comes : goal.value_of_sides-returns-in-Ok-second-clause-comes
-value_of_sides-returns-in-Ok-second-clause-comes t c =
+pub value_of_sides-returns-in-Ok-value_of-clause-comes : goal.value_of_sides-returns-in-Ok-value_of-clause-comes
+value_of_sides-returns-in-Ok-value_of-clause-comes t c =
     let base = (plain_ground c.args.base.now) in
     let old : Place = (place_of c.args.self.now) in
     let node = c.args.node.now in
     let a = plain_value c.in-Ok.value in
     let o = c.in-Binary.operator in
-    comes_two base old c.args.number _ c.in-Binary.left c.in-Binary.right a (plain_value c.in-Ok-second.second) (value_by (op_for o) a (plain_value c.in-Ok-second.second)) (place_of c.value_of.new.self) (place_of c.value_of-2.new.self) c.at_line.result _
+    comes_two base old c.args.number _ c.in-Binary.left c.in-Binary.right a (plain_value c.in-Ok-value_of.second) (value_by (op_for o) a (plain_value c.in-Ok-value_of.second)) (place_of c.value_of.new.self) (place_of c.value_of-2.new.self) c.at_line.result _
     (c.requires.node ∙ ap (λ f. let q : PlainNode = record { line = node.line; form = plain_node_form f } in Some q) c.in-Binary.is)
-    c.requires.room c.in-Ok.ensures.comes.1 c.in-Ok-second.ensures.comes
-    (λ s between end l r. has_both (setting_at base old) node.line c.in-Binary.left c.in-Binary.right o a (plain_value c.in-Ok-second.second) s between end (sym c.skips.ensures ∙ c.if-skips.false) l r)
-    (c.at_line.ensures _ (subst (λ q. AnswersAs (value_by q a (plain_value c.in-Ok-second.second)) c.value_by.result) c.op_for.ensures c.value_by.ensures))
+    c.requires.room c.in-Ok.ensures.comes.1 c.in-Ok-value_of.ensures.comes
+    (λ s between end l r. has_both (setting_at base old) node.line c.in-Binary.left c.in-Binary.right o a (plain_value c.in-Ok-value_of.second) s between end (sym c.skips.ensures ∙ c.if-skips.false) l r)
+    (c.at_line.ensures _ (subst (λ q. AnswersAs (value_by q a (plain_value c.in-Ok-value_of.second)) c.value_by.result) c.op_for.ensures c.value_by.ensures))
 
-pub value_of_sides-returns-in-Err-stop-clause-comes : goal.value_of_sides-returns-in-Err-stop-clause-comes
-value_of_sides-returns-in-Err-stop-clause-comes t c =
+pub value_of_sides-returns-in-Err-value_of-clause-comes : goal.value_of_sides-returns-in-Err-value_of-clause-comes
+value_of_sides-returns-in-Err-value_of-clause-comes t c =
     let base = (plain_ground c.args.base.now) in
     let old : Place = (place_of c.args.self.now) in
     let node = c.args.node.now in
     let o = c.in-Binary.operator in
-    stops_second base old c.args.number _ c.in-Binary.left c.in-Binary.right (plain_value c.in-Ok.value) (right_frames o c.args.number c.in-Ok.value) (place_of c.value_of.new.self) (place_of c.value_of-2.new.self) (place_of c.behind_right.new.self) c.in-Err-stop.stop c.behind_right.result c.value_of-2.new.self.path.items c.behind_right.new.self.path.items
+    stops_second base old c.args.number _ c.in-Binary.left c.in-Binary.right (plain_value c.in-Ok.value) (right_frames o c.args.number c.in-Ok.value) (place_of c.value_of.new.self) (place_of c.value_of-2.new.self) (place_of c.behind_right.new.self) c.in-Err-value_of.stop c.behind_right.result c.value_of-2.new.self.path.items c.behind_right.new.self.path.items
     (c.requires.node ∙ ap (λ f. let q : PlainNode = record { line = node.line; form = plain_node_form f } in Some q) c.in-Binary.is)
     c.requires.room c.in-Ok.ensures.comes.1
     (right_fits (let b = c.args.base.now in b.program) o c.args.number c.in-Ok.value c.requires.number (has_form base old c.args.number c.args.node.now c.requires.node _ c.in-Binary.is IsDouble tt))
     (λ s between l. right_waits (setting_at base old) c.args.number node.line c.in-Binary.left c.in-Binary.right o c.in-Ok.value s between (c.requires.node ∙ ap (λ f. let q : PlainNode = record { line = node.line; form = plain_node_form f } in Some q) c.in-Binary.is) (sym c.skips.ensures ∙ c.if-skips.false) l)
-    c.in-Err-stop.ensures.comes c.behind_right.ensures.place c.behind_right.ensures.path
+    c.in-Err-value_of.ensures.comes c.behind_right.ensures.place c.behind_right.ensures.path
 
 pub value_of_member-begin_data-requires : goal.value_of_member-begin_data-requires
 value_of_member-begin_data-requires t c =
@@ -160,10 +154,7 @@ pub value_of_member-value_of-requires : goal.value_of_member-value_of-requires
 value_of_member-value_of-requires t c =
     let base = (plain_ground c.args.base.now) in
     let old : Place = (place_of c.args.self.now) in
-    (search arith, record {
-      number = part_is base old c.args.number c.args.node.now c.requires.node _ c.in-Member.is c.requires.parts 0 _ refl;
-      path = c.begin_data.ensures.path ∙ c.requires.path;
-    })
+    (search arith, (part_is base old c.args.number c.args.node.now c.requires.node _ c.in-Member.is c.requires.parts 0 _ refl, c.begin_data.ensures.path ∙ c.requires.path))
 
 pub value_of_member-returns-in_default-clause-comes : goal.value_of_member-returns-in_default-clause-comes
 value_of_member-returns-in_default-clause-comes t c = stops_here (plain_ground c.args.base.now) (place_of c.args.self.now) c.args.number _ c.requires.number c.requires.path
@@ -175,53 +166,49 @@ value_of_member-returns-in-Ok-Some-clause-comes t c =
     let node = c.args.node.now in
     let mid = place_of c.begin_data.new.self in
     let e = c.in-Ok-Some.event.value in
-    let gave = subst (λ o. IfOk o (λ found. IfSome found (λ event. GaveData base (record old { fuel = old.fuel - 1 }) c.in-Member.part event.value mid))) c.in-Ok-Some.is c.begin_data.ensures.some in
+    let gave = subst (λ o. IfSome o (λ event. GaveData base (record old { fuel = old.fuel - 1 }) c.in-Member.part event.value mid)) c.in-Ok-Some.field-0-is (subst (λ o. IfOk o (λ found. IfSome found (λ event. GaveData base (record old { fuel = old.fuel - 1 }) c.in-Member.part event.value mid))) c.in-Ok-Some.is c.begin_data.ensures.some) in
     comes_one base old c.args.number _ c.in-Member.part (extra_value e.extra) (λ x. member_of x c.in-Member.word) mid c.at_line.result _
     (c.requires.node ∙ ap (λ f. let q : PlainNode = record { line = node.line; form = plain_node_form f } in Some q) c.in-Member.is)
     c.requires.room (c.begin_data.ensures.path ∙ c.requires.path, data_gave base (record old { fuel = old.fuel - 1 }) mid c.in-Member.part e gave) (λ s. refl)
     (c.at_line.ensures _ (subst (λ (x : PlainEvent). AnswersAs (member_of (extra_value x.extra) c.in-Member.word) c.data_member.result) c.deref.ensures c.data_member.ensures))
 
-pub value_of_member-returns-in-Ok-value-clause-comes : goal.value_of_member-returns-in-Ok-value-clause-comes
-value_of_member-returns-in-Ok-value-clause-comes t c =
+pub value_of_member-returns-in-Ok-clause-comes : goal.value_of_member-returns-in-Ok-clause-comes
+value_of_member-returns-in-Ok-clause-comes t c =
     let base = (plain_ground c.args.base.now) in
     let old : Place = (place_of c.args.self.now) in
     let node = c.args.node.now in
-    let same = subst (λ o. IfOk o (λ found. IfNone found (place_of c.begin_data.new.self ≡ (record old { fuel = old.fuel - 1 })))) c.in-Ok-None.is c.begin_data.ensures.none in
+    let mid = place_of c.begin_data.new.self in
+    let same = subst (λ o. IfNone o (mid ≡ record old { fuel = old.fuel - 1 })) c.in-Ok-None.field-0-is (subst (λ o. IfOk o (λ found. IfNone found (mid ≡ record old { fuel = old.fuel - 1 }))) c.in-Ok-None.is c.begin_data.ensures.none) in
     let last = place_of c.value_of.new.self in
-    comes_one base old c.args.number _ c.in-Member.part (plain_value c.in-Ok-value.value) (λ x. member_of x c.in-Member.word) last c.at_line.result _
+    comes_one base old c.args.number _ c.in-Member.part (plain_value c.in-Ok.value) (λ x. member_of x c.in-Member.word) last c.at_line.result _
     (c.requires.node ∙ ap (λ f. let q : PlainNode = record { line = node.line; form = plain_node_form f } in Some q) c.in-Member.is)
-    c.requires.room (subst (λ q. (c.value_of.new.self.path.items ≡ []) × Gave base q c.in-Member.part (plain_value c.in-Ok-value.value) last) same c.in-Ok-value.ensures.comes) (λ s. refl)
+    c.requires.room (subst (λ q. (c.value_of.new.self.path.items ≡ []) × Gave base q c.in-Member.part (plain_value c.in-Ok.value) last) same c.in-Ok.ensures.comes) (λ s. refl)
     (c.at_line.ensures _ c.member.ensures)
 
-pub value_of_member-returns-in-Err-stop-clause-comes : goal.value_of_member-returns-in-Err-stop-clause-comes
-value_of_member-returns-in-Err-stop-clause-comes t c =
+pub value_of_member-returns-in-Err-value_of-clause-comes : goal.value_of_member-returns-in-Err-value_of-clause-comes
+value_of_member-returns-in-Err-value_of-clause-comes t c =
     let base = (plain_ground c.args.base.now) in
     let old : Place = (place_of c.args.self.now) in
     let node = c.args.node.now in
     let g = here c.args.base.now c.args.self.now in
-    let same = subst (λ o. IfOk o (λ found. IfNone found (place_of c.begin_data.new.self ≡ (record old { fuel = old.fuel - 1 })))) c.in-Ok-None.is c.begin_data.ensures.none in
+    let mid = place_of c.begin_data.new.self in
+    let same = subst (λ o. IfNone o (mid ≡ record old { fuel = old.fuel - 1 })) c.in-Ok-None.field-0-is (subst (λ o. IfOk o (λ found. IfNone found (mid ≡ record old { fuel = old.fuel - 1 }))) c.in-Ok-None.is c.begin_data.ensures.none) in
     let last = place_of c.value_of.new.self in
-    stops_first base old c.args.number _ c.in-Member.part (Waiting (First c.args.number)) last (place_of c.behind.new.self) c.in-Err-stop.stop c.behind.result c.value_of.new.self.path.items c.behind.new.self.path.items
+    stops_first base old c.args.number _ c.in-Member.part (Waiting (First c.args.number)) last (place_of c.behind.new.self) c.in-Err-value_of.stop c.behind.result c.value_of.new.self.path.items c.behind.new.self.path.items
     (c.requires.node ∙ ap (λ f. let q : PlainNode = record { line = node.line; form = plain_node_form f } in Some q) c.in-Member.is)
-    c.requires.room (c.requires.number, has_form base old c.args.number c.args.node.now c.requires.node _ c.in-Member.is IsShort tt) (λ s. short_begins g c.args.number c.args.node.now c.requires.node _ c.in-Member.is s c.in-Member.part tt refl) (subst (λ q. StopsAs base q (eval (setting_at base q) c.in-Member.part) c.in-Err-stop.stop c.value_of.new.self.path.items last) same c.in-Err-stop.ensures.comes) c.behind.ensures.place c.behind.ensures.path
+    c.requires.room (c.requires.number, has_form base old c.args.number c.args.node.now c.requires.node _ c.in-Member.is IsShort tt) (λ s. short_begins g c.args.number c.args.node.now c.requires.node _ c.in-Member.is s c.in-Member.part tt refl) (subst (λ q. StopsAs base q (eval (setting_at base q) c.in-Member.part) c.in-Err-value_of.stop c.value_of.new.self.path.items last) same c.in-Err-value_of.ensures.comes) c.behind.ensures.place c.behind.ensures.path
 
 pub value_of_index-value_of-requires : goal.value_of_index-value_of-requires
 value_of_index-value_of-requires t c =
     let base = (plain_ground c.args.base.now) in
     let old : Place = (place_of c.args.self.now) in
-    (search arith, record {
-      number = part_is base old c.args.number c.args.node.now c.requires.node _ c.in-Index.is c.requires.parts 0 _ refl;
-      path = c.requires.path;
-    })
+    (search arith, (part_is base old c.args.number c.args.node.now c.requires.node _ c.in-Index.is c.requires.parts 0 _ refl, c.requires.path))
 
 pub value_of_index-value_of-requires-2 : goal.value_of_index-value_of-requires-2
 value_of_index-value_of-requires-2 t c =
     let base = (plain_ground c.args.base.now) in
     let old : Place = (place_of c.args.self.now) in
-    (search arith, record {
-      number = part_is base old c.args.number c.args.node.now c.requires.node _ c.in-Index.is c.requires.parts 1 _ refl;
-      path = c.in-Ok.ensures.comes.0;
-    })
+    (search arith, (part_is base old c.args.number c.args.node.now c.requires.node _ c.in-Index.is c.requires.parts 1 _ refl, c.in-Ok.ensures.comes.0))
 
 pub value_of_index-returns-in_default-clause-comes : goal.value_of_index-returns-in_default-clause-comes
 value_of_index-returns-in_default-clause-comes t c = stops_here (plain_ground c.args.base.now) (place_of c.args.self.now) c.args.number _ c.requires.number c.requires.path
@@ -236,48 +223,42 @@ value_of_index-returns-in-Err-clause-comes t c =
     (c.requires.node ∙ ap (λ f. let q : PlainNode = record { line = node.line; form = plain_node_form f } in Some q) c.in-Index.is)
     c.requires.room (c.requires.number, has_form base old c.args.number c.args.node.now c.requires.node _ c.in-Index.is IsShort tt) (λ s. short_begins g c.args.number c.args.node.now c.requires.node _ c.in-Index.is s c.in-Index.part tt refl) c.in-Err.ensures.comes c.behind.ensures.place c.behind.ensures.path
 
-pub value_of_index-returns-in-Ok-second-clause-comes : goal.value_of_index-returns-in-Ok-second-clause-comes
-value_of_index-returns-in-Ok-second-clause-comes t c =
+pub value_of_index-returns-in-Ok-value_of-clause-comes : goal.value_of_index-returns-in-Ok-value_of-clause-comes
+value_of_index-returns-in-Ok-value_of-clause-comes t c =
     let base = (plain_ground c.args.base.now) in
     let old : Place = (place_of c.args.self.now) in
     let node = c.args.node.now in
     let a = plain_value c.in-Ok.value in
-    let b = plain_value c.in-Ok-second.second in
+    let b = plain_value c.in-Ok-value_of.second in
     comes_two base old c.args.number _ c.in-Index.part c.in-Index.at a b (index_of a b) (place_of c.value_of.new.self) (place_of c.value_of-2.new.self) c.at_line.result _
     (c.requires.node ∙ ap (λ f. let q : PlainNode = record { line = node.line; form = plain_node_form f } in Some q) c.in-Index.is)
-    c.requires.room c.in-Ok.ensures.comes.1 c.in-Ok-second.ensures.comes
+    c.requires.room c.in-Ok.ensures.comes.1 c.in-Ok-value_of.ensures.comes
     (λ s between end l r. index_answer (setting_at base old) node.line c.in-Index.part c.in-Index.at a b s between end l r)
     (c.at_line.ensures _ c.index.ensures)
 
-pub value_of_index-returns-in-Err-stop-clause-comes : goal.value_of_index-returns-in-Err-stop-clause-comes
-value_of_index-returns-in-Err-stop-clause-comes t c =
+pub value_of_index-returns-in-Err-value_of-clause-comes : goal.value_of_index-returns-in-Err-value_of-clause-comes
+value_of_index-returns-in-Err-value_of-clause-comes t c =
     let base = (plain_ground c.args.base.now) in
     let old : Place = (place_of c.args.self.now) in
     let node = c.args.node.now in
-    stops_second base old c.args.number _ c.in-Index.part c.in-Index.at (plain_value c.in-Ok.value) (Waiting (Second c.args.number c.in-Ok.value) ∷ []) (place_of c.value_of.new.self) (place_of c.value_of-2.new.self) (place_of c.behind-2.new.self) c.in-Err-stop.stop c.behind-2.result c.value_of-2.new.self.path.items c.behind-2.new.self.path.items
+    stops_second base old c.args.number _ c.in-Index.part c.in-Index.at (plain_value c.in-Ok.value) (Waiting (Second c.args.number c.in-Ok.value) ∷ []) (place_of c.value_of.new.self) (place_of c.value_of-2.new.self) (place_of c.behind-in-Err-value_of.new.self) c.in-Err-value_of.stop c.behind-in-Err-value_of.result c.value_of-2.new.self.path.items c.behind-in-Err-value_of.new.self.path.items
     (c.requires.node ∙ ap (λ f. let q : PlainNode = record { line = node.line; form = plain_node_form f } in Some q) c.in-Index.is)
     c.requires.room c.in-Ok.ensures.comes.1
     (fits_one (let b = c.args.base.now in b.program) _ (c.requires.number, has_form base old c.args.number c.args.node.now c.requires.node _ c.in-Index.is IsDouble tt))
     (λ s between l. index_waits (setting_at base old) c.args.number node.line c.in-Index.part c.in-Index.at c.in-Ok.value s between (c.requires.node ∙ ap (λ f. let q : PlainNode = record { line = node.line; form = plain_node_form f } in Some q) c.in-Index.is) l)
-    c.in-Err-stop.ensures.comes c.behind-2.ensures.place c.behind-2.ensures.path
+    c.in-Err-value_of.ensures.comes c.behind-in-Err-value_of.ensures.place c.behind-in-Err-value_of.ensures.path
 
 pub value_of_choice-value_of-requires : goal.value_of_choice-value_of-requires
 value_of_choice-value_of-requires t c =
     let base = (plain_ground c.args.base.now) in
     let old : Place = (place_of c.args.self.now) in
-    (search arith, record {
-      number = part_is base old c.args.number c.args.node.now c.requires.node _ c.in-Conditional.is c.requires.parts 0 _ refl;
-      path = c.requires.path;
-    })
+    (search arith, (part_is base old c.args.number c.args.node.now c.requires.node _ c.in-Conditional.is c.requires.parts 0 _ refl, c.requires.path))
 
-pub value_of_choice-value_of-requires-2 : goal.value_of_choice-value_of-requires-2
-value_of_choice-value_of-requires-2 t c =
+pub value_of_choice-value_of-requires-in-Ok : goal.value_of_choice-value_of-requires-in-Ok
+value_of_choice-value_of-requires-in-Ok t c =
     let base = (plain_ground c.args.base.now) in
     let old : Place = (place_of c.args.self.now) in
-    (search arith, record {
-      number = subst (IsNode (let b = c.args.base.now in b.program)) (sym c.one_of.ensures) (one_fits (let b = c.args.base.now in b.program) (is_truthy (plain_value c.in-Ok.value)) c.in-Conditional.yes c.in-Conditional.no (part_is base old c.args.number c.args.node.now c.requires.node _ c.in-Conditional.is c.requires.parts 1 _ refl) (part_is base old c.args.number c.args.node.now c.requires.node _ c.in-Conditional.is c.requires.parts 2 _ refl));
-      path = c.in-Ok.ensures.comes.0;
-    })
+    (search arith, (subst (IsNode (let b = c.args.base.now in b.program)) (sym c.one_of.ensures) (one_fits (let b = c.args.base.now in b.program) (is_truthy (plain_value c.in-Ok.value)) c.in-Conditional.yes c.in-Conditional.no (part_is base old c.args.number c.args.node.now c.requires.node _ c.in-Conditional.is c.requires.parts 1 _ refl) (part_is base old c.args.number c.args.node.now c.requires.node _ c.in-Conditional.is c.requires.parts 2 _ refl)), c.in-Ok.ensures.comes.0))
 
 pub value_of_choice-returns-in_default-clause-comes : goal.value_of_choice-returns-in_default-clause-comes
 value_of_choice-returns-in_default-clause-comes t c = stops_here (plain_ground c.args.base.now) (place_of c.args.self.now) c.args.number _ c.requires.number c.requires.path
@@ -297,7 +278,7 @@ value_of_choice-returns-in-Ok-clause-comes t c =
     let base = (plain_ground c.args.base.now) in
     let old : Place = (place_of c.args.self.now) in
     let node = c.args.node.now in
-    comes_chosen base old c.args.number node.line c.in-Conditional.test c.in-Conditional.yes c.in-Conditional.no (plain_value c.in-Ok.value) (place_of c.value_of.new.self) (place_of c.value_of-2.new.self) c.value_of-2.result c.value_of-2.new.self.path.items
+    comes_chosen base old c.args.number node.line c.in-Conditional.test c.in-Conditional.yes c.in-Conditional.no (plain_value c.in-Ok.value) (place_of c.value_of.new.self) (place_of c.value_of-in-Ok.new.self) c.value_of-in-Ok.result c.value_of-in-Ok.new.self.path.items
     (c.requires.node ∙ ap (λ f. let q : PlainNode = record { line = node.line; form = plain_node_form f } in Some q) c.in-Conditional.is)
     c.requires.room c.in-Ok.ensures.comes.1
-    (subst (λ k. Comes base (place_of c.value_of.new.self) k c.value_of-2.result c.value_of-2.new.self.path.items (place_of c.value_of-2.new.self)) c.one_of.ensures c.value_of-2.ensures.comes)
+    (subst (λ k. Comes base (place_of c.value_of.new.self) k c.value_of-in-Ok.result c.value_of-in-Ok.new.self.path.items (place_of c.value_of-in-Ok.new.self)) c.one_of.ensures c.value_of-in-Ok.ensures.comes)

@@ -9,3 +9,6 @@ assign_at_once-requires-clause-part c = part_is (plain_ground c.args.base.now) (
 
 pub returns-in_default : goal.returns-in_default
 returns-in_default c = stops_here (plain_ground c.args.base.now) (place_of c.args.self.now) c.args.number _ c.requires.number c.requires.path
+
+pub returns-then-self : goal.returns-then-self
+returns-then-self c = stops_here (plain_ground c.args.base.now) (place_of c.args.self.now) c.args.number _ c.requires.number c.requires.path

@@ -35,3 +35,6 @@ returns-in-Err c =
 
 pub returns-in_default : goal.returns-in_default
 returns-in_default c = stops_here (plain_ground c.args.base.now) (place_of c.args.self.now) c.args.number _ c.requires c.clear.ensures.items
+
+pub returns-then-self : goal.returns-then-self
+returns-then-self c = stops_here (plain_ground c.args.base.now) (place_of c.args.self.now) c.args.number _ c.requires c.clear.ensures.items

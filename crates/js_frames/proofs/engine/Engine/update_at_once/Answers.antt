@@ -12,8 +12,8 @@ use Rattle.js_frames.proofs.engine.Engine.update_at_once.Goals as goal
 pub returns-in_default : goal.returns-in_default
 returns-in_default c = stops_here (plain_ground c.args.base.now) (place_of c.args.self.now) c.args.number _ c.requires.number c.requires.path
 
-pub returns-in_default-2 : goal.returns-in_default-2
-returns-in_default-2 c = stops_here (plain_ground c.args.base.now) (place_of c.args.self.now) c.args.number _ c.requires.number c.requires.path
+pub returns-in_default-on_one : goal.returns-in_default-on_one
+returns-in_default-on_one c = stops_here (plain_ground c.args.base.now) (place_of c.args.self.now) c.args.number _ c.requires.number c.requires.path
 
 pub returns : goal.returns
 returns c =
