@@ -26,7 +26,7 @@ use Rattle.js_frames.specs.declared.frame.Frame.{Frame}
 use Rattle.js_frames.specs.Places.{Place, Beside, setting_at, state_at}
 use Rattle.js_frames.specs.Frames.{plain_completion, rest, resume, plug, step_outcome, future}
 use Rattle.js_frames.specs.Fits.{IsNode, AreNodes, HasForm, FrameFits, StackFits, StepFits}
-use Rattle.js_frames.specs.inner.Leads.{Rests, Within, Leads, pushed, Keeps, IsSettled, Becomes, Picks, Gives, node_does, waits_for}
+use Rattle.js_frames.specs.inner.Leads.{Rests, Within, Leads, pushed, Keeps, IsSettled, Becomes, Picks, Gives, node_does}
 
 -- the last frame takes the outcome first
 pub plug_pushed : (g : Setting) (st : List Frame) (f : Frame) (o : Outcome) → plug g (st ++ f ∷ []) o ≡ plug g st (resume g f o)
@@ -202,11 +202,6 @@ module _ (base : js.Ground) where
 
   pub becomes_ok : (old : Place) (o : State → Outcome) (q : Setting → State → Outcome) (r : Result Step AllocError) → StackFits base.program old.stack → IfOk r (Becomes q) → ((s : State) → q (setting_at base old) s ≡ o s) → IfOk r (λ step. Leads base old o old step)
   becomes_ok old o q r fits w h = on_ok r (λ step b. becomes old o q step fits b h) w
-
-  -- what has to wait
-  pub waits_still : (old mid new : Place) (frame : Frame) (part : ℕ) (r : Result Step AllocError) → StackFits base.program old.stack → mid ≡ old → IfOk r (λ step. (step ≡ Begin part) × (new ≡ pushed mid frame)) → FrameFits base.program frame → IsNode base.program part → IfOk r (λ step. Leads base old (waits_for (setting_at base old) frame part) new step)
-  waits_still old mid new frame part r fits e w frame_fits part_fits =
-      wait_leads old new _ r frame part fits (subst (λ q. IfOk r (λ step. (step ≡ Begin part) × (new ≡ pushed q frame))) e w) frame_fits part_fits (λ s. refl)
 
   -- what `begin` answers for a node of this form
   module _ (old : Place) (n : ℕ) (found : Node) (at : slice_get base.program.nodes n ≡ Some (plain_node found)) (form : NodeForm) (is : found.form ≡ form) where

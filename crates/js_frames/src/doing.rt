@@ -72,7 +72,10 @@ impl Engine {
             None => self.behind(Frame::Waiting(Part::Assigned(slot, line)), stop),
             Some(op) => match self.slots.copy_of(slot) {
                 Ok(old) => {
-                    self.behind(Frame::Waiting(Part::AssignedWith(op, old, slot, line)), stop)
+                    self.behind(
+                        Frame::Waiting(Part::AssignedWith(op, old, slot, line)),
+                        stop,
+                    )
                 }
                 Err(_) => Stop::Memory,
             },

@@ -136,13 +136,7 @@ impl Engine {
 
     /// What waits for the right side of an operator that stopped: after `||` and `&&` nothing.
     #[inline(never)]
-    fn behind_right(
-        &mut self,
-        operator: Operator,
-        number: u32,
-        first: Value,
-        stop: Stop,
-    ) -> Stop
+    fn behind_right(&mut self, operator: Operator, number: u32, first: Value, stop: Stop) -> Stop
         ensures place { place_of self.new ≡ place_of self.old }
         ensures path { IsBehind stop self.old.path.items (right_frames operator number first)
             result self.new.path.items }

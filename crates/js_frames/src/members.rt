@@ -63,7 +63,11 @@ pub(crate) fn data_member(alloc: Global, event: &Event, name: &Text) -> Result<V
 impl Engine {
     /// A part that is `data` of a variable begins, if the variable holds an event and the slice allows
     /// both to begin: the event.
-    pub(crate) fn begin_data(&mut self, base: &Ground, part: u32) -> Result<Option<Arc<Event>>, Memory>
+    pub(crate) fn begin_data(
+        &mut self,
+        base: &Ground,
+        part: u32,
+    ) -> Result<Option<Arc<Event>>, Memory>
         requires { IsNode base.now.program part }
         ensures some { IfOk result (λ found. IfSome found (λ event. GaveData
             (plain_ground base.now) (place_of self.old) part event.value (place_of self.new))) }

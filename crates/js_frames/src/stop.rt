@@ -54,7 +54,8 @@ impl Engine {
     pub(crate) fn suspend(&mut self, frame: Frame, stop: Stop) -> Result<Step, Memory>
         ensures step { IfOk result (IsStepOf stop) }
         ensures place { IfOk result (λ _. place_of self.new ≡ record (place_of self.old) {
-            stack = self.old.stack.items ++ frame ∷ reverse self.old.path.items; }) }
+          stack = self.old.stack.items ++ frame ∷ reverse self.old.path.items;
+        }) }
     {
         self.stack.push(frame)?;
         while let Some(inner) = self.path.pop() {

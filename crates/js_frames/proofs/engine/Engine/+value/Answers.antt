@@ -33,10 +33,12 @@ use Rattle.js_frames.proofs.engine.Engine.+value.Goals as goal
 pub value_of-returns-in-Number-clause-comes : goal.value_of-returns-in-Number-clause-comes
 value_of-returns-in-Number-clause-comes t c =
     let base = (plain_ground c.args.base.now) in
-    let old : Place = (place_of c.args.self.now) in
-    (c.requires.path, gave_leaf base old c.args.number _ old.fuel
-    (leaf_gives base old c.args.number (whole c.in-Number.n) (ap (leaf_of base old) c.node_of-node.ensures.node ∙ ap (λ f. leaf_at base old (plain_node_form f)) c.in-Number.is))
-    (omega arith))
+    let old : Place = (place_of c.args.self.now) in (
+      c.requires.path,
+      gave_leaf base old c.args.number _ old.fuel
+          (leaf_gives base old c.args.number (whole c.in-Number.n) (ap (leaf_of base old) c.node_of-node.ensures.node ∙ ap (λ f. leaf_at base old (plain_node_form f)) c.in-Number.is))
+          (omega arith),
+    )
 
 pub value_of-returns-in-Read-clause-comes : goal.value_of-returns-in-Read-clause-comes
 value_of-returns-in-Read-clause-comes t c =
@@ -113,10 +115,12 @@ pub value_of_sides-returns-then-skips-clause-comes : goal.value_of_sides-returns
 value_of_sides-returns-then-skips-clause-comes t c =
     let base = (plain_ground c.args.base.now) in
     let old : Place = (place_of c.args.self.now) in
-    let node = c.args.node.now in
-    (c.in-Ok.ensures.comes.0, gave_left base old c.args.number c.in-Binary.left c.in-Binary.right node.line c.in-Binary.operator (plain_value c.in-Ok.value) (place_of c.value_of.new.self)
-    (c.requires.node ∙ ap (λ f. let q : PlainNode = record { line = node.line; form = plain_node_form f } in Some q) c.in-Binary.is)
-    (sym c.skips.ensures ∙ c.if-skips.true) c.requires.room c.in-Ok.ensures.comes.1)
+    let node = c.args.node.now in (
+      c.in-Ok.ensures.comes.0,
+      gave_left base old c.args.number c.in-Binary.left c.in-Binary.right node.line c.in-Binary.operator (plain_value c.in-Ok.value) (place_of c.value_of.new.self)
+          (c.requires.node ∙ ap (λ f. let q : PlainNode = record { line = node.line; form = plain_node_form f } in Some q) c.in-Binary.is)
+          (sym c.skips.ensures ∙ c.if-skips.true) c.requires.room c.in-Ok.ensures.comes.1,
+    )
 
 pub value_of_sides-returns-in-Ok-value_of-clause-comes : goal.value_of_sides-returns-in-Ok-value_of-clause-comes
 value_of_sides-returns-in-Ok-value_of-clause-comes t c =

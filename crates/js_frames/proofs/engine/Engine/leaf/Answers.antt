@@ -23,23 +23,29 @@ returns-in-Ok-clause-comes c =
 pub returns-in-Truth-clause-comes : goal.returns-in-Truth-clause-comes
 returns-in-Truth-clause-comes c =
     let base = (plain_ground c.args.base.now) in
-    let old : Place = (place_of c.args.self.now) in
-    (c.requires.path, gave_leaf base old c.args.number _ old.fuel
-    (λ fuel b. let g = setting_at base old in ap (λ o. does_node g (eval g) (iterations_of g) o (state_at (record old { fuel = fuel }) b)) (c.requires.node ∙ ap (λ f. let q : PlainNode = record { line = (let n = c.args.node.now in n.line); form = plain_node_form f } in Some q) c.in-Truth.is)) c.requires.room)
+    let old : Place = (place_of c.args.self.now) in (
+      c.requires.path,
+      gave_leaf base old c.args.number _ old.fuel
+          (λ fuel b. let g = setting_at base old in ap (λ o. does_node g (eval g) (iterations_of g) o (state_at (record old { fuel = fuel }) b)) (c.requires.node ∙ ap (λ f. let q : PlainNode = record { line = (let n = c.args.node.now in n.line); form = plain_node_form f } in Some q) c.in-Truth.is)) c.requires.room,
+    )
 
 pub returns-in-Null-clause-comes : goal.returns-in-Null-clause-comes
 returns-in-Null-clause-comes c =
     let base = (plain_ground c.args.base.now) in
-    let old : Place = (place_of c.args.self.now) in
-    (c.requires.path, gave_leaf base old c.args.number _ old.fuel
-    (λ fuel b. let g = setting_at base old in ap (λ o. does_node g (eval g) (iterations_of g) o (state_at (record old { fuel = fuel }) b)) (c.requires.node ∙ ap (λ f. let q : PlainNode = record { line = (let n = c.args.node.now in n.line); form = plain_node_form f } in Some q) c.in-Null.is)) c.requires.room)
+    let old : Place = (place_of c.args.self.now) in (
+      c.requires.path,
+      gave_leaf base old c.args.number _ old.fuel
+          (λ fuel b. let g = setting_at base old in ap (λ o. does_node g (eval g) (iterations_of g) o (state_at (record old { fuel = fuel }) b)) (c.requires.node ∙ ap (λ f. let q : PlainNode = record { line = (let n = c.args.node.now in n.line); form = plain_node_form f } in Some q) c.in-Null.is)) c.requires.room,
+    )
 
 pub returns-in-Undefined-clause-comes : goal.returns-in-Undefined-clause-comes
 returns-in-Undefined-clause-comes c =
     let base = (plain_ground c.args.base.now) in
-    let old : Place = (place_of c.args.self.now) in
-    (c.requires.path, gave_leaf base old c.args.number _ old.fuel
-    (λ fuel b. let g = setting_at base old in ap (λ o. does_node g (eval g) (iterations_of g) o (state_at (record old { fuel = fuel }) b)) (c.requires.node ∙ ap (λ f. let q : PlainNode = record { line = (let n = c.args.node.now in n.line); form = plain_node_form f } in Some q) c.in-Undefined.is)) c.requires.room)
+    let old : Place = (place_of c.args.self.now) in (
+      c.requires.path,
+      gave_leaf base old c.args.number _ old.fuel
+          (λ fuel b. let g = setting_at base old in ap (λ o. does_node g (eval g) (iterations_of g) o (state_at (record old { fuel = fuel }) b)) (c.requires.node ∙ ap (λ f. let q : PlainNode = record { line = (let n = c.args.node.now in n.line); form = plain_node_form f } in Some q) c.in-Undefined.is)) c.requires.room,
+    )
 
 pub returns-in_default-clause-comes : goal.returns-in_default-clause-comes
 returns-in_default-clause-comes c = stops_here (plain_ground c.args.base.now) (place_of c.args.self.now) c.args.number _ c.requires.number c.requires.path
