@@ -24,7 +24,7 @@ use Rattle.js_frames.specs.inner.Stopping.{Comes, StopsAs, IsBehind, right_frame
 use Rattle.js_frames.proofs.Steps.{part_is, has_form}
 use Rattle.js_frames.proofs.LeafLemmas.{leaf_gives}
 use Rattle.js_frames.proofs.BeginLemmas.{short_begins, operand_begins, operand_fits}
-use Rattle.js_frames.proofs.VariableLemmas.{held_with}
+use Rattle.js_frames.proofs.VariableLemmas.{held_here}
 use Rattle.js_frames.proofs.GivingLemmas.{begins_at, gave_leaf, gave_left, has_both, index_answer, index_waits, one_fits, right_waits, right_fits}
 use Rattle.js_frames.proofs.MemberLemmas.{data_gave}
 use Rattle.js_frames.proofs.StopLemmas.{fits_one, stops_here, comes_read, comes_one, comes_two, comes_chosen, stops_first, stops_second}
@@ -48,7 +48,7 @@ value_of-returns-in-Read-clause-comes t c =
     comes_read base old (record old { fuel = old.fuel - 1 }) c.args.number node.line _ c.value_read.result _ c.value_read.ensures c.requires.path refl (omega arith) (omega arith)
     (λ b.
     begins_at base old c.args.number _ b (c.node_of-node.ensures.node ∙ ap (λ f. let q : PlainNode = record { line = node.line; form = plain_node_form f } in Some q) c.in-Read.is) (omega arith)
-    ∙ ap (λ h. if_declared node.line h gives (state_at (record old { fuel = old.fuel - 1 }) b)) (held_with base c.in-Read.variable old (old.fuel - 1) b))
+    ∙ ap (λ h. if_declared node.line h gives (state_at (record old { fuel = old.fuel - 1 }) b)) (held_here base c.in-Read.variable (record old { fuel = old.fuel - 1 }) b))
 
 pub value_of-returns-then-self-clause-comes : goal.value_of-returns-then-self-clause-comes
 value_of-returns-then-self-clause-comes t c = stops_here (plain_ground c.args.base.now) (place_of c.args.self.now) c.args.number _ c.requires.number c.requires.path
@@ -184,10 +184,10 @@ value_of_member-returns-in-Ok-clause-comes t c =
     let mid = place_of c.begin_data.new.self in
     let same = subst (λ o. IfNone o (mid ≡ record old { fuel = old.fuel - 1 })) c.in-Ok-None.field-0-is (subst (λ o. IfOk o (λ found. IfNone found (mid ≡ record old { fuel = old.fuel - 1 }))) c.in-Ok-None.is c.begin_data.ensures.none) in
     let last = place_of c.value_of.new.self in
-    comes_one base old c.args.number _ c.in-Member.part (plain_value c.in-Ok.value) (λ x. member_of x c.in-Member.word) last c.at_line.result _
+    comes_one base old c.args.number _ c.in-Member.part (plain_value c.in-Ok.value) (λ x. member_of x c.in-Member.word) last c.at_line-in-Ok.result _
     (c.requires.node ∙ ap (λ f. let q : PlainNode = record { line = node.line; form = plain_node_form f } in Some q) c.in-Member.is)
     c.requires.room (subst (λ q. (c.value_of.new.self.path.items ≡ []) × Gave base q c.in-Member.part (plain_value c.in-Ok.value) last) same c.in-Ok.ensures.comes) (λ s. refl)
-    (c.at_line.ensures _ c.member.ensures)
+    (c.at_line-in-Ok.ensures _ c.member.ensures)
 
 pub value_of_member-returns-in-Err-value_of-clause-comes : goal.value_of_member-returns-in-Err-value_of-clause-comes
 value_of_member-returns-in-Err-value_of-clause-comes t c =
