@@ -151,6 +151,7 @@ impl Engine {
     /// A part begins and is evaluated at once: it gives its value, or stops at what is not done at
     /// once, where the slice ends, or at a fault. What waits within it then stands on the path.
     #[cycle(value)]
+    #[inline(always)]
     pub(crate) fn value_of(&mut self, base: &Ground, number: u32, depth: u32) -> Result<Value, Stop>
         requires number { IsNode base.now.program number }
         requires path { self.old.path.items ≡ [] }
