@@ -58,7 +58,7 @@ pub(crate) fn value_on(
     }
 }
 
-/// The value of two by an operator, at its line; where there is no operator, the second.
+/// The value of two by an operator; where there is no operator, the second.
 #[inline(always)]
 pub(crate) fn value_by(
     alloc: Global,
