@@ -69,7 +69,7 @@ pub effects_send : IsSend Effects.the_row
 effects_send = search (sendable, crosses, event_send, text_send, value_send) depth 18
 
 engine_send : IsSend Engine.the_row
-engine_send = declared_send Engine.the_type (search (sendable, heap_send), (search (sendable, mode.the_send), (Vec-send _ frame_send, (slots_send, (search (sendable, slots_send) depth 18, (search sendable, (search sendable, (search sendable, (search sendable, (effects_send, (Vec-send _ values_send, tt)))))))))))
+engine_send = declared_send Engine.the_type (search (sendable, heap_send), (search (sendable, mode.the_send), (Vec-send _ frame_send, (Vec-send _ frame_send, (slots_send, (search (sendable, slots_send) depth 18, (search sendable, (search sendable, (search sendable, (search sendable, (effects_send, (Vec-send _ values_send, tt))))))))))))
 
 step_send : IsSend Step.the_row
 step_send = search (sendable, completion_send, text_send, value_send, fault.the_send) depth 40 fits 20000
