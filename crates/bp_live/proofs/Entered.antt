@@ -10,7 +10,8 @@ use Rattle.js_value.specs.Value.{PlainSet}
 use Rattle.bp_run.specs.Selecting.{Live}
 use Rattle.bp_live.specs.Candidates.{candidate_of, tops_of}
 use Rattle.bp_roll.specs.declared.key.Key.{Key}
-use Rattle.bp_live.specs.Tops.{Top, raised, with_request, with_requests, with_live}
+use Rattle.bp_live.specs.Tops.{Top}
+use Rattle.bp_live.specs.inner.Gathering.{raised, with_request, with_requests, with_live}
 use Rattle.bp_live.proofs.TopLemmas.{request_at}
 
 module _ {K : Type 0} (f : K → PlainEvent) where

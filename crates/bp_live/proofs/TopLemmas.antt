@@ -9,7 +9,8 @@ use Rattle.js_data.proofs.Shared.{if_true, if_false}
 use Rattle.js_value.specs.Value.{PlainSet}
 use Rattle.bp_run.specs.Selecting.{Live, requests, candidates}
 use Rattle.bp_run.specs.Choosing.{priority_of}
-use Rattle.bp_live.specs.Tops.{Top, events_of, raised, with_request, with_requests, with_live, HaveTops}
+use Rattle.bp_live.specs.Tops.{Top, events_of, HaveTops}
+use Rattle.bp_live.specs.inner.Gathering.{raised, with_request, with_requests, with_live}
 use Rattle.bp_roll.specs.Keys.{same_sym}
 use Rattle.bp_live.proofs.Gathered.{with_new, with_all, gathered}
 use Rattle.bp_live.proofs.Remains.{upper, upper_twice, upper_none, max_self, priority_at}
@@ -63,7 +64,7 @@ events_live xs (t ∷ ts) =
     ∙ ap (λ (ys : List PlainEvent). with_all ys (requested_by ts)) (events_all t.statement.priority xs t.statement.request)
     ∙ sym (fold-append with_new (events_of xs) t.statement.request (requested_by ts))
 
-pub tops_events : (ts : List (Live PlainSet)) → events_of (with_live [] ts) ≡ candidates ts
+tops_events : (ts : List (Live PlainSet)) → events_of (with_live [] ts) ≡ candidates ts
 tops_events ts = events_live [] ts ∙ gathered (requested_by ts)
 
 -- ---- priorities
@@ -168,7 +169,7 @@ tops_from ts [] k f = tt
 tops_from ts (x ∷ xs) k f =
     (f x.0 x.1 (top_at x.0 x xs true (same_event-self x.0)), tops_from ts xs k.1 (λ e v m. f e v (later_at e x xs v (same_event e x.0) refl k.0 m)))
 
-pub tops_have : (ts : List (Live PlainSet)) → HaveTops ts (with_live [] ts)
+tops_have : (ts : List (Live PlainSet)) → HaveTops ts (with_live [] ts)
 tops_have ts = tops_from ts (with_live [] ts) (keyed_live [] ts tt) (λ e v m. sym (tops_live e [] ts) ∙ m)
 
 -- ---- candidates
@@ -177,9 +178,17 @@ module _ {A : Type 0} (f : A → PlainEvent) (g : A → ℤ) where
   abbrev tops_at : List A → List Top
   tops_at xs = map (λ x. (f x, g x)) xs
 
-  pub events_at : (xs : List A) → map f xs ≡ events_of (tops_at xs)
+  events_at : (xs : List A) → map f xs ≡ events_of (tops_at xs)
   events_at [] = refl
   events_at (x ∷ xs) = ap (λ (es : List PlainEvent). f x ∷ es) (events_at xs)
+
+  -- what is gathered of these b-threads
+  module _ (xs : List A) (ts : List (Live PlainSet)) (all : tops_at xs ≡ with_live [] ts) where
+    pub are_candidates : map f xs ≡ candidates ts
+    are_candidates = events_at xs ∙ ap (λ (es : List Top). events_of es) all ∙ tops_events ts
+
+    pub have_tops : HaveTops ts (tops_at xs)
+    have_tops = subst (λ (es : List Top). HaveTops ts es) (sym all) (tops_have ts)
 
   pub tops_get : (ts : List (Live PlainSet)) (all : List A) (i : ℕ) (x : A) → i < length all → x ≡ get_or all i x → HaveTops ts (tops_at all) → priority_of ts (f x) ≡ Some (g x)
   tops_get ts [] i x h k m = absurd (omega arith)

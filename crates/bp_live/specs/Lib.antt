@@ -5,3 +5,4 @@ pub mod Numbers
 pub mod Lists
 pub mod Tops
 pub mod Candidates
+pub mod inner

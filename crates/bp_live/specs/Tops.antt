@@ -1,7 +1,6 @@
--- Requested events, each with the greatest priority with which it is requested.
-use Rattle.std.specs.Prelude.{◌≡◌, ℤ, List, [], ◌∷◌, map, Option, Some, None, if◌then◌else◌}
-use Rattle.std.specs.Int.{int_max}
-use Rattle.js_data.specs.Event.{PlainEvent, same_event}
+-- Events, each with the greatest priority with which it is requested.
+use Rattle.std.specs.Prelude.{◌≡◌, ℤ, List, [], ◌∷◌, map, Some}
+use Rattle.js_data.specs.Event.{PlainEvent}
 use Rattle.js_value.specs.Value.{PlainSet}
 use Rattle.bp_run.specs.Selecting.{Live}
 use Rattle.bp_run.specs.Choosing.{priority_of}
@@ -11,26 +10,6 @@ Top = PlainEvent × ℤ
 
 abbrev pub events_of : List Top → List PlainEvent
 events_of xs = map (λ x. x.0) xs
-
--- the priority once this one comes, too
-abbrev pub raised : Option ℤ → ℤ → ℤ
-raised None p = p
-raised (Some a) p = int_max a p
-
--- one more request of e
-abbrev pub with_request : ℤ → List Top → PlainEvent → List Top
-with_request p [] e = (e, p) ∷ []
-with_request p (x ∷ xs) e =
-    if same_event e x.0 then (x.0, raised (Some x.1) p) ∷ xs else x ∷ with_request p xs e
-
-abbrev pub with_requests : ℤ → List Top → List PlainEvent → List Top
-with_requests p xs [] = xs
-with_requests p xs (e ∷ es) = with_requests p (with_request p xs e) es
-
--- what these b-threads request too
-abbrev pub with_live : List Top → List (Live PlainSet) → List Top
-with_live xs [] = xs
-with_live xs (t ∷ ts) = with_live (with_requests t.statement.priority xs t.statement.request) ts
 
 -- each has the greatest priority with which the b-threads request it
 abbrev pub HaveTops : List (Live PlainSet) → List Top → Type 0

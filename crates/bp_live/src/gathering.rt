@@ -1,8 +1,10 @@
 //! The requested events, each once, in the order in which they first appear.
 ghost use Rattle.std.specs.Prelude.{◌≡◌, ◌∷◌, [], IfOk, OnOk, map};
 ghost use Rattle.bp_live.specs.Lives.{lent, live_of};
-ghost use Rattle.bp_live.specs.Tops.{raised, with_request, with_requests, with_live};
-ghost use Rattle.bp_live.specs.Candidates.{tops_in, tops_of, candidate_of};
+ghost use Rattle.bp_run.specs.Selecting.{candidates};
+ghost use Rattle.bp_live.specs.Tops.{HaveTops};
+ghost use Rattle.bp_live.specs.Candidates.{candidate_of, events_in, tops_in, tops_of};
+ghost use Rattle.bp_live.specs.inner.Gathering.{raised, with_request, with_requests};
 
 use crate::candidate::Candidate;
 use crate::stated::Stated;
@@ -63,7 +65,10 @@ fn listed<'a>(alloc: Global, tops: Tops<'a>) -> Result<Vec<Candidate<'a>>, Memor
 /// The events that one b-thread requests, each once, in the order in which they first appear, with
 /// its priority. Its only error is out of memory.
 pub fn candidates_of<'a>(alloc: Global, stated: &'a Stated) -> Result<Vec<Candidate<'a>>, Memory>
-    ensures { IfOk result (λ l. tops_of l.items ≡ with_live [] (live_of stated.now ∷ [])) }
+    ensures events { let ts = live_of stated.now ∷ [] in
+        IfOk result (λ l. events_in l.items ≡ candidates ts) }
+    ensures tops { let ts = live_of stated.now ∷ [] in
+        IfOk result (λ l. HaveTops ts (tops_of l.items)) }
 {
     let mut tops = IndexMap::new(alloc);
     request_all(&mut tops, stated)?;
@@ -73,7 +78,8 @@ pub fn candidates_of<'a>(alloc: Global, stated: &'a Stated) -> Result<Vec<Candid
 /// The events that the b-threads request, each once, in the order in which they first appear, with
 /// the greatest priority of each. Its only error is out of memory.
 pub fn candidates<'a>(alloc: Global, asking: &[&'a Stated]) -> Result<Vec<Candidate<'a>>, Memory>
-    ensures { IfOk result (λ l. tops_of l.items ≡ with_live [] (map lent asking.now)) }
+    ensures events { IfOk result (λ l. events_in l.items ≡ candidates (map lent asking.now)) }
+    ensures tops { IfOk result (λ l. HaveTops (map lent asking.now) (tops_of l.items)) }
 {
     let mut tops = IndexMap::new(alloc);
     for stated in asking {

@@ -11,5 +11,5 @@ mod stated;
 pub use candidate::{Candidate, keep_if};
 pub use choosing::remaining;
 pub use gathering::{candidates, candidates_of};
-pub use placing::{StatedList, is_at, place_of};
+pub use placing::{StatedList, is_at, place_of, stated_of};
 pub use stated::{Stated, requests};

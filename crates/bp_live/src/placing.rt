@@ -5,9 +5,9 @@ ghost use Rattle.bp_run.specs.Selecting.{requests, requested};
 ghost use Rattle.bp_thread.specs.Views.{plain_statement};
 ghost use Rattle.bp_live.specs.Placing.{placed};
 ghost use Rattle.bp_live.specs.Lists.{HasGaps, gap, is_gap, live_in};
-ghost use Rattle.bp_live.specs.Lives.{live_of};
+ghost use Rattle.bp_live.specs.Lives.{lent, live_of};
 ghost use Rattle.bp_live.specs.Places.{AreInOrder};
-ghost use Rattle.bp_live.specs.Numbers.{place_in, is_number};
+ghost use Rattle.bp_live.specs.Numbers.{is_number, numbered, place_in};
 
 use crate::stated::{Stated, requests};
 use bp_log::Memory;
@@ -73,6 +73,18 @@ pub fn is_at(items: &[Stated], at: usize, number: u32) -> bool
         None => false,
         Some(stated) => stated.number == number,
     }
+}
+
+/// What the b-thread of this number states, if one has it.
+pub fn stated_of(items: &[Stated], number: u32) -> Option<&Stated>
+    requires { AreInOrder (map live_of items.now) }
+    ensures { option_map lent result ≡ numbered number (map live_of items.now) }
+{
+    let at = place_of(items, number);
+    if !is_at(items, at, number) {
+        return None;
+    }
+    Some(&items[at])
 }
 
 /// 1 where the one at this place is not live, and 0 where it is.

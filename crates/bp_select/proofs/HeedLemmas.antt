@@ -1,7 +1,7 @@
 -- Who is noted at which keys.
-use Rattle.std.proofs.Common.{◌≡◌, ◌⊎◌, inl, inr, ℕ, zero, suc, ◌+◌, ◌<◌, ◌≤◌, arith, Bool, true, false, not, ◌||◌, nat_eq, nat_lt, List, [], ◌∷◌, ◌++◌, Contains, length, map, take, drop, get_or, slice_index, refl, ap, sym, ◌∙◌, subst, Option, Some, None, Result, Ok, Err, OnOk, OnErr, if◌then◌else◌, slice_get}
+use Rattle.std.proofs.Common.{◌≡◌, ◌⊎◌, inl, inr, ℕ, zero, suc, ◌+◌, ◌<◌, ◌≤◌, arith, Bool, true, false, not, ◌||◌, nat_eq, nat_lt, List, [], ◌∷◌, ◌++◌, Contains, length, map, take, drop, get_or, slice_index, refl, ap, sym, ◌∙◌, subst, Option, Some, None, Result, Ok, Err, OnOk, OnErr, if◌then◌else◌}
 use Rattle.std.specs.List.{cons_option, list_any}
-use Rattle.std.proofs.lemmas.Bool.{eq-eqb, eqb-true, ne_eqb, ltb-true, or_left, or_right}
+use Rattle.std.proofs.lemmas.Bool.{eq-eqb, eqb-true, ne_eqb, or_left, or_right}
 use Rattle.std.proofs.lemmas.List.{drop_all, drop_more, take_all, take_more, take-append-drop, map_push}
 use Rattle.std.proofs.lemmas.List.Folds.{list_any-append, list_any_at}
 use Rattle.js_data.specs.Event.{PlainEvent, same_event}
@@ -25,11 +25,8 @@ use Rattle.bp_select.specs.inner.Heeding.{AreKept, AreNoted, HaveKeysOf, HeedsAt
 use Rattle.bp_select.specs.Tallies.{Each}
 use Rattle.bp_live.specs.Lives.{live_of}
 use Rattle.bp_select.specs.inner.Parts.{asks_nothing, blocks_nothing}
-use Rattle.bp_live.specs.Numbers.{place_in, is_number}
-use Rattle.bp_live.specs.Places.{AreAbove, AreInOrder}
+use Rattle.bp_live.specs.Places.{AreInOrder}
 use Rattle.bp_select.proofs.Noting.{Notes, noted_placed, noted_more}
-use Rattle.bp_live.proofs.Numbered.{number_at}
-use Rattle.bp_live.proofs.Putting.{above, above_get, place_of_one}
 
 -- ---- each of some
 
@@ -71,6 +68,9 @@ in_pushed n m ns h = list_any-append (nat_eq n) ns (m ∷ []) ∙ or_left (is_in
 
 pub in_push : (n : ℕ) (ns : List ℕ) → is_in n (ns ++ n ∷ []) ≡ true
 in_push n ns = list_any-append (nat_eq n) ns (n ∷ []) ∙ or_right (is_in n ns) (is_in n (n ∷ [])) (or_left (nat_eq n n) false (eq-eqb n n refl))
+
+pub in_at : (n i : ℕ) (ns : List ℕ) → i < length ns → n ≡ slice_index ns i → is_in n ns ≡ true
+in_at n i ns low is = list_any_at (nat_eq n) ns i 0 low (ap (λ (m : ℕ). nat_eq n m) (sym is) ∙ eq-eqb n n refl)
 
 pub in_dropped : (n i : ℕ) (ns : List ℕ) → is_in n (drop i ns) ≡ true → is_in n ns ≡ true
 in_dropped n i ns h =
@@ -240,43 +240,6 @@ events_step es i x ks ls low is q h e w = by (list_any (same_event e) (take i es
       where
         none : false ≡ true → ⊥
         none z = cc
-
--- ---- one of a number
-
-none_of_above : (n : ℕ) (ts : List (Live PlainSet)) → AreAbove n ts → Each (λ t. t.number ≡ n → ⊥) ts
-none_of_above n [] h = tt
-none_of_above n (t ∷ ts) h = let low = h.0 in ((λ e. omega (arith, low, e)), none_of_above n ts h.1)
-
-above_more : (a b : ℕ) (ts : List (Live PlainSet)) → a ≤ b → AreAbove b ts → AreAbove a ts
-above_more a b [] h k = tt
-above_more a b (t ∷ ts) h k = let m = k.0 in (omega (arith, h, m), above_more a b ts h k.1)
-
-pub absent_each : (n : ℕ) (xs : List Stated) (k : ℕ) → AreInOrder (map live_of xs) → k ≡ place_in n (map live_of xs) → is_number n (slice_get (map live_of xs) k) ≡ false → Each (λ t. t.number ≡ n → ⊥) (map live_of xs)
-absent_each n [] k a e f = tt
-absent_each n (y ∷ xs) k a e f = by (nat_lt (live_of y).number n) refl k (e ∙ place_of_one n y xs (nat_lt (live_of y).number n) refl) f (λ j q m. absent_each n xs j a.1 q m)
-  where
-    by : (b : Bool) → nat_lt (live_of y).number n ≡ b → (k : ℕ) → k ≡ (if b then suc (place_in n (map live_of xs)) else 0) → is_number n (slice_get (map live_of (y ∷ xs)) k) ≡ false →
-        ((j : ℕ) → j ≡ place_in n (map live_of xs) → is_number n (slice_get (map live_of xs) j) ≡ false → Each (λ t. t.number ≡ n → ⊥) (map live_of xs)) → Each (λ t. t.number ≡ n → ⊥) (map live_of (y ∷ xs))
-    by true h zero e f ih = absurd (omega (arith, e))
-    by true h (suc j) e f ih = let low = ltb-true (live_of y).number n h in ((λ q. omega (arith, low, q)), ih j (omega (arith, e)) f)
-    by false h zero e f ih =
-        let m = above (live_of y).number n h f in
-        ((λ q. omega (arith, m, q)), none_of_above n (map live_of xs) (above_more n y.number (map live_of xs) (omega (arith, m)) a.0))
-    by false h (suc j) e f ih = absurd (omega (arith, e))
-
-found_one : (xs : List Stated) (k : ℕ) (d : Stated) → AreInOrder (map live_of xs) → k < length xs → Each (λ t. t.number ≡ (get_or xs k d).number → t ≡ live_of (get_or xs k d)) (map live_of xs)
-found_one [] k d a low = absurd (omega (arith, low))
-found_one (x ∷ xs) zero d a low =
-    ((λ e. refl), each_map (λ t. t.number ≡ x.number → ⊥) (λ t. t.number ≡ x.number → t ≡ live_of x) (map live_of xs) (λ t f e. absurd (f e)) (none_of_above x.number (map live_of xs) a.0))
-found_one (x ∷ xs) (suc k) d a low =
-    let m = above_get x.number xs k d a.0 (omega (arith, low)) in
-    ((λ e. absurd (let q : x.number ≡ (get_or xs k d).number = e in omega (arith, m, q))), found_one xs k d a.1 (omega (arith, low)))
-
-pub found_each : (P : Live PlainSet → Type 0) (n k : ℕ) (xs : List Stated) (d : Stated) → AreInOrder (map live_of xs) → k < length xs → is_number n (slice_get (map live_of xs) k) ≡ true → P (live_of (get_or xs k d)) →
-    Each (λ t. t.number ≡ n → P t) (map live_of xs)
-found_each P n k xs d a low is own =
-    let m = number_at n k xs d is in
-    each_map (λ t. t.number ≡ (get_or xs k d).number → t ≡ live_of (get_or xs k d)) (λ t. t.number ≡ n → P t) (map live_of xs) (λ t f e. subst P (sym (f (e ∙ sym m))) own) (found_one xs k d a low)
 
 -- ---- b-threads are noted
 

@@ -4,6 +4,7 @@ pub mod TouchLemmas
 pub mod Selects
 pub mod Telling
 pub mod Noting
+pub mod Numbers
 pub mod HeedLemmas
 pub mod Finding
 pub mod PartLemmas

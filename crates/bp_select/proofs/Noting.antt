@@ -1,5 +1,5 @@
 -- Block sets that become those of the b-threads.
-use Rattle.std.proofs.Common.{◌≡◌, ◌≢◌, ◌⊎◌, inl, inr, ℕ, zero, suc, ◌+◌, ◌<◌, arith, Bool, true, false, nat_eq, nat_lt, List, [], ◌∷◌, ◌++◌, length, map, take, drop, get_or, refl, ap, sym, ◌∙◌, subst, Option, Some, None, Result, Ok, Err, if◌then◌else◌, slice_get, Contains}
+use Rattle.std.proofs.Common.{◌≡◌, ◌≢◌, ◌⊎◌, inl, inr, ℕ, zero, suc, ◌+◌, ◌<◌, arith, Bool, true, false, nat_eq, nat_lt, List, [], ◌∷◌, ◌++◌, length, take, drop, get_or, refl, ap, sym, ◌∙◌, subst, Option, Some, None, Result, Ok, Err, if◌then◌else◌, Contains}
 use Rattle.std.specs.List.{cons_option}
 use Rattle.std.specs.Result.{OnOk, OnErr}
 use Rattle.std.proofs.lemmas.Bool.{not-false, cases_eq, ltb-true, eqb-true, eq-eqb}
@@ -8,19 +8,15 @@ use Rattle.std.proofs.lemmas.List.Elements.{Contains-get_or, Contains-append_rig
 use Rattle.js_value.specs.Value.{PlainSet}
 use Rattle.bp_run.specs.Bodies.{Statement}
 use Rattle.bp_run.specs.Selecting.{Live}
-use Rattle.bp_live.specs.declared.stated.Stated.{Stated}
 use Rattle.bp_live.specs.Placing.{live_at, placed}
 use Rattle.bp_select.specs.Blocks.{block_at, own_set}
 use Rattle.bp_select.specs.inner.BlockSets.{AreOfUnchanged, HasNoBlock, has_block}
 use Rattle.bp_select.specs.EmptySets.{is_empty}
 use Rattle.bp_known.specs.Known.{Sets, restated, sets_in}
-use Rattle.bp_live.specs.Lives.{live_of}
-use Rattle.bp_live.specs.Numbers.{place_in, is_number}
 use Rattle.bp_live.specs.Places.{AreAbove, AreInOrder}
 use Rattle.bp_known.proofs.Knowing.{restated_apart, restated_here}
-use Rattle.bp_live.proofs.Numbered.{number_at}
-use Rattle.bp_live.proofs.Putting.{above, above_trans, place_of_one}
-use Rattle.bp_select.proofs.Telling.{above_block, block_apart, block_here, block_index, own_empty}
+use Rattle.bp_live.proofs.Putting.{above_trans}
+use Rattle.bp_select.proofs.Telling.{above_block, block_apart, block_here, own_empty}
 
 -- ---- one is placed
 
@@ -97,26 +93,6 @@ noted_placed n o ts us sets old new (Ok x) order h k notes w = noted_put n o ts 
 noted_placed n o ts us sets old new (Err x) order h k notes w =
     subst (λ (xs : List (Live PlainSet)). AreOfUnchanged xs sets new) (sym k) (noted_more ts sets old new (notes_stay sets n o old new notes) w)
 
--- ---- the block set of a number
-
-pub absent_block : (n : ℕ) (xs : List Stated) (k : ℕ) → AreInOrder (map live_of xs) → k ≡ place_in n (map live_of xs) → is_number n (slice_get (map live_of xs) k) ≡ false → block_at (map live_of xs) n ≡ None
-absent_block n [] k a e f = refl
-absent_block n (y ∷ xs) k a e f = by (nat_lt (live_of y).number n) refl k (e ∙ place_of_one n y xs (nat_lt (live_of y).number n) refl) f (λ j q m. absent_block n xs j a.1 q m)
-  where
-    by : (b : Bool) → nat_lt (live_of y).number n ≡ b → (k : ℕ) → k ≡ (if b then suc (place_in n (map live_of xs)) else 0) → is_number n (slice_get (map live_of (y ∷ xs)) k) ≡ false →
-        ((j : ℕ) → j ≡ place_in n (map live_of xs) → is_number n (slice_get (map live_of xs) j) ≡ false → block_at (map live_of xs) n ≡ None) → block_at (map live_of (y ∷ xs)) n ≡ None
-    by true h zero e f ih = absurd (omega (arith, e))
-    by true h (suc j) e f ih =
-        let low = ltb-true (live_of y).number n h in
-        block_apart (live_of y) (map live_of xs) n (λ q. omega (arith, low, q)) ∙ ih j (omega (arith, e)) f
-    by false h zero e f ih =
-        let m = above (live_of y).number n h f in
-        block_apart (live_of y) (map live_of xs) n (λ q. omega (arith, m, q)) ∙ none_above n (map live_of xs) (above_trans n y.number (map live_of xs) m a.0)
-    by false h (suc j) e f ih = absurd (omega (arith, e))
-
-pub found_block : (n k : ℕ) (xs : List Stated) (d : Stated) → AreInOrder (map live_of xs) → k < length xs → is_number n (slice_get (map live_of xs) k) ≡ true → block_at (map live_of xs) n ≡ own_set (live_of (get_or xs k d))
-found_block n k xs d o low is = ap (λ (m : ℕ). block_at (map live_of xs) m) (sym (number_at n k xs d is)) ∙ block_index live_of xs k d o low
-
 -- ---- one after another
 
 rest_of : (n i : ℕ) (ns : List ℕ) → Contains (n ∷ ns) i → (n ≢ i) → Contains ns i
@@ -149,6 +125,15 @@ module _ (ts : List (Live PlainSet)) (old new : Sets) (changed : List ℕ) (at n
       by n true e w = inl (subst (Contains changed) (sym is ∙ eqb-true number n e) (Contains-get_or changed at number low))
       by n false e (inl c) = inl (subst (λ (ns : List ℕ). Contains ns n) (take-append-drop at changed) (Contains-append_right (take at changed) (drop at changed) n c))
       by n false e (inr w) = inr (others n e ∙ w)
+
+-- a number that is among the changed may have another set
+pub noted_restated : (ts : List (Live PlainSet)) (number : ℕ) (old new : Sets) (changed : List ℕ) → Contains changed number → ((n : ℕ) → nat_eq number n ≡ false → new n ≡ old n) → AreOfUnchanged ts old changed → AreOfUnchanged ts new changed
+noted_restated ts number old new changed at others h = record { each = λ n. by n (nat_eq number n) refl (h.each n) }
+  where
+    by : (n : ℕ) (b : Bool) → nat_eq number n ≡ b → Contains changed n ⊎ (old n ≡ block_at ts n) → Contains changed n ⊎ (new n ≡ block_at ts n)
+    by n true e w = inl (subst (Contains changed) (eqb-true number n e) at)
+    by n false e (inl c) = inl c
+    by n false e (inr w) = inr (others n e ∙ w)
 
 -- ---- one is restated
 

@@ -1,7 +1,7 @@
 -- What is asked of some is asked of all.
 use Rattle.std.proofs.Common.{◌≡◌, inl, inr, ℕ, suc, ◌<◌, Bool, true, false, ◌||◌, nat_eq, List, [], ◌∷◌, ◌++◌, refl, ap, sym, ◌∙◌, subst, Option, Some, None, Ok, Err, find, if◌then◌else◌}
 use Rattle.std.specs.List.{list_all, list_any}
-use Rattle.std.specs.Prelude.{ℤ}
+use Rattle.std.specs.Prelude.{ℤ, flat_map}
 use Rattle.std.proofs.lemmas.Bool.{eqb-true}
 use Rattle.std.proofs.lemmas.List.Elements.{filter_agree}
 use Rattle.js_data.specs.Event.{PlainEvent, same_event}
@@ -10,13 +10,12 @@ use Rattle.js_meaning.specs.State.{Ground}
 use Rattle.bp_log.specs.declared.options.Strategy.{Strategy}
 use Rattle.bp_log.specs.declared.options.Strategy.TheVariants.{Simple, Ordered, Priority}
 use Rattle.bp_meaning.specs.Membership.{Membership, member}
-use Rattle.bp_run.specs.Selecting.{Live, Has, Asked, both, by_number, blocked, requests, unblocked, first_unblocked}
+use Rattle.bp_run.specs.Selecting.{Live, Has, Asked, both, by_number, blocked, requests, unblocked, first_unblocked, candidates, distinct}
 use Rattle.bp_run.specs.Choosing.{at_most, chosen, drawn_of, greater, is_first_of, is_greatest, priority_of, remaining}
 use Rattle.bp_known.specs.Known.{Sets}
 use Rattle.bp_select.specs.Blocks.{AreOf, block_at, own_set}
 use Rattle.bp_select.specs.inner.Parts.{IsPart, are_none, asks_nothing, blocks_nothing}
 use Rattle.bp_live.specs.Places.{AreAbove, AreInOrder}
-use Rattle.bp_live.specs.Tops.{Top, HaveTops, with_live, with_requests}
 use Rattle.bp_select.proofs.BlockLemmas.{nothing_in}
 use Rattle.bp_select.proofs.Noting.{none_above}
 
@@ -36,19 +35,8 @@ module _ (p : Live PlainSet → Bool) (t : Live PlainSet) where
   part_skip (s ∷ ss) (u ∷ ts) q (inr w) = inr (w.0, part_skip ss ts q w.1)
 
 -- what skips those that are left out is the same of some and of all
-module _ {A : Type 0} (p : Live PlainSet → Bool) (f : A → List (Live PlainSet) → A) (step : A → Live PlainSet → A) where
-  -- from the front on
-  pub part_folds : (nil : (a : A) → f a [] ≡ a) (cons : (a : A) (t : Live PlainSet) (ts : List (Live PlainSet)) → f a (t ∷ ts) ≡ f (step a t) ts) (skip : (a : A) (t : Live PlainSet) → p t ≡ true → step a t ≡ a) →
-      (a : A) (ss ts : List (Live PlainSet)) → IsPart p ss ts → f a ss ≡ f a ts
-  part_folds nil cons skip a ss [] h = ap (f a) h
-  part_folds nil cons skip a [] (t ∷ ts) h = part_folds nil cons skip a [] ts h.1 ∙ sym (cons a t ts ∙ ap (λ (b : A). f b ts) (skip a t h.0))
-  part_folds nil cons skip a (s ∷ ss) (t ∷ ts) (inl w) = part_folds nil cons skip a (s ∷ ss) ts w.1 ∙ sym (cons a t ts ∙ ap (λ (b : A). f b ts) (skip a t w.0))
-  part_folds nil cons skip a (s ∷ ss) (t ∷ ts) (inr w) =
-      cons a s ss ∙ ap (λ (u : Live PlainSet). f (step a u) ss) w.0 ∙ part_folds nil cons skip (step a t) ss ts w.1 ∙ sym (cons a t ts)
-
 module _ {A : Type 0} (p : Live PlainSet → Bool) (f : List (Live PlainSet) → A) (step : Live PlainSet → A → A) where
-  -- from the end on
-  pub part_rests : (cons : (t : Live PlainSet) (ts : List (Live PlainSet)) → f (t ∷ ts) ≡ step t (f ts)) (skip : (a : A) (t : Live PlainSet) → p t ≡ true → step t a ≡ a) →
+  part_rests : (cons : (t : Live PlainSet) (ts : List (Live PlainSet)) → f (t ∷ ts) ≡ step t (f ts)) (skip : (a : A) (t : Live PlainSet) → p t ≡ true → step t a ≡ a) →
       (ss ts : List (Live PlainSet)) → IsPart p ss ts → f ss ≡ f ts
   part_rests cons skip ss [] h = ap f h
   part_rests cons skip [] (t ∷ ts) h = part_rests cons skip [] ts h.1 ∙ sym (cons t ts ∙ skip (f ts) t h.0)
@@ -65,10 +53,10 @@ none_asked [] h = refl
 none_asked (e ∷ es) h = absurd (cc)
 
 module _ (ss ts : List (Live PlainSet)) (part : IsPart asks_nothing ss ts) where
-  pub tops_part : (xs : List Top) → with_live xs ss ≡ with_live xs ts
-  tops_part xs =
-      part_folds asks_nothing with_live (λ xs t. with_requests t.statement.priority xs t.statement.request) (λ a. refl) (λ a t us. refl)
-      (λ a t h. ap (λ (es : List PlainEvent). with_requests t.statement.priority a es) (none_asked t.statement.request h)) xs ss ts part
+  pub candidates_part : candidates ss ≡ candidates ts
+  candidates_part =
+      ap (λ (es : List PlainEvent). distinct es)
+      (part_rests asks_nothing (λ us. flat_map (λ t. t.statement.request) us) (λ t es. t.statement.request ++ es) (λ t us. refl) (λ es t h. ap (λ (rs : List PlainEvent). rs ++ es) (none_asked t.statement.request h)) ss ts part)
 
   priority_part : (e : PlainEvent) → priority_of ss e ≡ priority_of ts e
   priority_part e =
@@ -80,11 +68,7 @@ module _ (ss ts : List (Live PlainSet)) (part : IsPart asks_nothing ss ts) where
       part_rests asks_nothing (λ us. list_any (is_first_of inner e) us) (λ t a. is_first_of inner e t || a) (λ t us. refl)
       (λ a t h. ap (λ (es : List PlainEvent). first_as e (find (λ r. list_any (same_event r) inner) es) || a) (none_asked t.statement.request h)) ss ts part
 
-  pub have_tops_part : (xs : List Top) → HaveTops ss xs → HaveTops ts xs
-  have_tops_part [] h = tt
-  have_tops_part (x ∷ xs) h = (sym (priority_part x.0) ∙ h.0, have_tops_part xs h.1)
-
-  pub remaining_part : (s : Strategy) (inner : List PlainEvent) → remaining s ss inner ≡ remaining s ts inner
+  remaining_part : (s : Strategy) (inner : List PlainEvent) → remaining s ss inner ≡ remaining s ts inner
   remaining_part Simple inner = refl
   remaining_part Ordered inner = filter_agree (λ e. list_any (is_first_of inner e) ss) (λ e. list_any (is_first_of inner e) ts) (λ e. firsts_part inner e) inner
   remaining_part Priority inner =

@@ -1,6 +1,5 @@
 -- What is selected and chosen, from its parts.
 use Rattle.std.proofs.Common.{◌+◌, ◌%◌, ◌<◌, ◌≤◌, get_or, slice_get, option_map, Option, Some, ◌≡◌, ℕ, arith, List, [], ◌∷◌, length, map, refl, ap, sym, ◌∙◌, subst, None, Ok, Err}
-use Rattle.std.specs.Prelude.{ℤ}
 use Rattle.std.proofs.lemmas.List.{length-map}
 use Rattle.std.proofs.lemmas.Nat.{mod_below}
 use Rattle.std.proofs.lemmas.Option.{slice_get-map, slice_get-get_or, slice_get_within}
@@ -14,23 +13,12 @@ use Rattle.bp_select.specs.declared.answers.Choice as answer
 use Rattle.bp_select.specs.declared.answers.Choice.TheVariants as answers
 use Rattle.bp_select.specs.Answers.{FaultAs, IsWithin}
 use Rattle.bp_select.specs.inner.Eligible.{IsFrom}
-use Rattle.bp_live.specs.Tops.{Top, events_of, with_live, HaveTops}
 use Rattle.js_meaning.specs.State.{Ground}
 use Rattle.bp_meaning.specs.Membership.{member}
 use Rattle.bp_select.specs.inner.Parts.{IsPart, blocks_nothing}
 use Rattle.bp_select.proofs.PartLemmas.{unblocked_part, first_part}
 use Rattle.bp_run.proofs.Chosen.{first_is}
 use Rattle.bp_select.proofs.Questions.{fault_on}
-use Rattle.bp_live.proofs.TopLemmas.{events_at, tops_events, tops_have}
-
--- ---- candidates
-
-module _ {A : Type 0} (f : A → PlainEvent) (g : A → ℤ) (xs : List A) (ts : List (Live PlainSet)) where
-  pub are_candidates : map (λ x. (f x, g x)) xs ≡ with_live [] ts → map f xs ≡ candidates ts
-  are_candidates h = events_at f g xs ∙ ap (λ (us : List Top). events_of us) h ∙ tops_events ts
-
-  pub have_tops : map (λ x. (f x, g x)) xs ≡ with_live [] ts → HaveTops ts (map (λ x. (f x, g x)) xs)
-  have_tops h = subst (λ (us : List Top). HaveTops ts us) (sym h) (tops_have ts)
 
 -- ---- what can be selected
 

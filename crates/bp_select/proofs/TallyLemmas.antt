@@ -33,10 +33,11 @@ use Rattle.bp_select.specs.inner.Heeding.{Stays}
 use Rattle.bp_roll.specs.Keys.{same_sym}
 use Rattle.bp_live.specs.Lives.{live_of}
 use Rattle.bp_live.specs.Places.{AreAbove, AreInOrder}
-use Rattle.bp_live.specs.Numbers.{is_number}
 use Rattle.bp_select.specs.inner.Counted.{IsAlone, IsCounted, all_free, chosen_as, or_none}
-use Rattle.bp_select.proofs.HeedLemmas.{each_both, each_map, each_placed, found_each, in_dropped}
+use Rattle.bp_select.proofs.HeedLemmas.{each_both, each_map, each_placed, in_dropped}
 use Rattle.bp_select.proofs.Selects.{choice_of}
+use Rattle.bp_live.specs.Numbers.{numbered}
+use Rattle.bp_select.proofs.Numbers.{each_absent, each_found, there}
 
 none : false ≡ true → ⊥
 none z = cc
@@ -122,11 +123,6 @@ alone_last t i ts low = each_map (OthersPassAll t.number (take i t.statement.req
     by u (inr a) = inr (record { each = λ e h. a e (ap (λ (es : List PlainEvent). list_any (same_event e) es) (take_all i t.statement.request low) ∙ h) })
 
 -- ---- counts
-
-pub there_at : (n k : ℕ) (xs : List Stated) → is_number n (slice_get (map live_of xs) k) ≡ true → is_there n (map live_of xs) ≡ true
-there_at n k [] h = absurd (cc)
-there_at n zero (x ∷ xs) h = or_left (nat_eq x.number n) (is_there n (map live_of xs)) h
-there_at n (suc k) (x ∷ xs) h = or_right (nat_eq x.number n) (is_there n (map live_of xs)) (there_at n k xs h)
 
 -- what is alone on one side is on the other
 abbrev pub Meet : Live PlainSet → Live PlainSet → Type 0
@@ -680,20 +676,20 @@ picked_is has word ts queue d (x ∷ y ∷ rest) e total place draws u t n p q a
 
 -- ---- one of a number is counted
 
-pub absent_counted : (base : Ground) (budget : ℕ) (sets : Sets) (ts : List (Live PlainSet)) (n : ℕ) → Each (λ t. t.number ≡ n → ⊥) ts → IsCounted base budget sets ts n 0
-absent_counted base budget sets ts n h = record {
-  free = each_map (λ t. t.number ≡ n → ⊥) (λ t. t.number ≡ n → HasFree base budget sets 0 t) ts (λ t f e. absurd (f e)) h;
-  alone = each_map (λ t. t.number ≡ n → ⊥) (λ t. t.number ≡ n → IsAlone ts t) ts (λ t f e. absurd (f e)) h;
-  absent = inr refl;
-}
+module _ (base : Ground) (budget : ℕ) (sets : Sets) (ts : List (Live PlainSet)) (n : ℕ) where
+  pub absent_counted : numbered n ts ≡ None → IsCounted base budget sets ts n 0
+  absent_counted h = record {
+    free = each_absent (λ t. HasFree base budget sets 0 t) n ts h;
+    alone = each_absent (λ t. IsAlone ts t) n ts h;
+    absent = inr refl;
+  }
 
-pub found_counted : (base : Ground) (budget : ℕ) (sets : Sets) (xs : List Stated) (k n : ℕ) (d : Stated) (es : List PlainEvent) (count : ℕ) → AreInOrder (map live_of xs) → k < length xs → is_number n (slice_get (map live_of xs) k) ≡ true →
-    AreFreeOf base budget sets (live_of (get_or xs k d)) es → count ≡ length es → IsAlone (map live_of xs) (live_of (get_or xs k d)) → IsCounted base budget sets (map live_of xs) n count
-found_counted base budget sets xs k n d es count order low is are many alone = record {
-  free = found_each (λ t. HasFree base budget sets count t) n k xs d order low is (record { free = es; are = are; many = many });
-  alone = found_each (λ t. IsAlone (map live_of xs) t) n k xs d order low is alone;
-  absent = inl (there_at n k xs is);
-}
+  pub found_counted : (x : Live PlainSet) (es : List PlainEvent) (count : ℕ) → AreInOrder ts → numbered n ts ≡ Some x → AreFreeOf base budget sets x es → count ≡ length es → IsAlone ts x → IsCounted base budget sets ts n count
+  found_counted x es count order h are many alone = record {
+    free = each_found (λ t. HasFree base budget sets count t) n x ts order h (record { free = es; are = are; many = many });
+    alone = each_found (λ t. IsAlone ts t) n x ts order h alone;
+    absent = inl (there n x ts h);
+  }
 
 -- what holds under any b-threads that state these sets
 pub free_when : {E : Type 0} (base : Ground) (budget : ℕ) (sets : Sets) (r : Result (Option (Vec Candidate Global)) E) (es : List PlainEvent) (t : Live PlainSet) → es ≡ own t →
@@ -729,30 +725,28 @@ counted_when base budget sets ts n count counts (Err x) own h = tt
 
 -- ---- one of all is found, and chosen
 
-module _ (base : Ground) (budget : ℕ) (sets : Sets) (xs : List Stated) (o : AreInOrder (map live_of xs)) (of : AreOf (map live_of xs) sets) (counts : List ℕ) (h : AreTallied base budget sets (map live_of xs) [] counts) where
+module _ (base : Ground) (budget : ℕ) (sets : Sets) (ts : List (Live PlainSet)) (o : AreInOrder ts) (of : AreOf ts sets) (counts : List ℕ) (h : AreTallied base budget sets ts [] counts) where
   -- the one of this number has these free events
-  pub event_when : {E : Type 0} (k n r place : ℕ) (x : Stated) (es : List PlainEvent) (res : Result (Option PlainEvent) E) → k < length xs → is_number n (slice_get (map live_of xs) k) ≡ true → x ≡ get_or xs k x →
-      AreFreeOf base budget sets (live_of x) es → r < count_at counts n → sum (take n counts) + r ≡ place → IfOk res (λ a. IfSome a (λ e. slice_get es r ≡ Some e)) →
-      IfOk res (λ a. IfSome a (λ e. slice_get (all_free (member base budget) (map live_of xs)) place ≡ Some e))
-  event_when {E} k n r place x es res low is at free less sums got = of_result res got
+  pub event_when : {E : Type 0} (n r place : ℕ) (x : Live PlainSet) (es : List PlainEvent) (res : Result (Option PlainEvent) E) → numbered n ts ≡ Some x → AreFreeOf base budget sets x es → r < count_at counts n → sum (take n counts) + r ≡ place → IfOk res (λ a. IfSome a (λ e. slice_get es r ≡ Some e)) →
+      IfOk res (λ a. IfSome a (λ e. slice_get (all_free (member base budget) ts) place ≡ Some e))
+  event_when {E} n r place x es res at free less sums got = of_result res got
     where
-      alone : Each (λ u. u.number ≡ n → u ≡ live_of x) (map live_of xs)
-      alone = found_each (λ u. u ≡ live_of x) n k xs x o low is (ap (λ (s : Stated). live_of s) (sym at))
+      alone : Each (λ u. u.number ≡ n → u ≡ x) ts
+      alone = each_found (λ u. u ≡ x) n x ts o at refl
 
-      same : slice_get (all_free (member base budget) (map live_of xs)) place ≡ slice_get es r
+      same : slice_get (all_free (member base budget) ts) place ≡ slice_get es r
       same =
-          ap (λ (m : ℕ). slice_get (all_free (member base budget) (map live_of xs)) m) (sym sums)
-          ∙ event_is base budget sets (map live_of xs) o of counts h n r (live_of x) es alone less free
+          ap (λ (m : ℕ). slice_get (all_free (member base budget) ts) m) (sym sums)
+          ∙ event_is base budget sets ts o of counts h n r x es alone less free
 
-      of_result : (res : Result (Option PlainEvent) E) → IfOk res (λ a. IfSome a (λ e. slice_get es r ≡ Some e)) → IfOk res (λ a. IfSome a (λ e. slice_get (all_free (member base budget) (map live_of xs)) place ≡ Some e))
+      of_result : (res : Result (Option PlainEvent) E) → IfOk res (λ a. IfSome a (λ e. slice_get es r ≡ Some e)) → IfOk res (λ a. IfSome a (λ e. slice_get (all_free (member base budget) ts) place ≡ Some e))
       of_result (Ok (Some e)) got = same ∙ got
       of_result (Ok None) got = tt
       of_result (Err z) got = tt
 
   pub picked : (word : ℕ → ℕ) (d total place : ℕ) (draws : Bool) (e : PlainEvent) (queue : List PlainEvent) → total ≡ sum counts → (total ≡ 0 → ⊥) → place ≡ word d % total → draws ≡ nat_lt 1 total →
-      slice_get (all_free (member base budget) (map live_of xs)) place ≡ Some e → choice (member base budget) word Simple (map live_of xs) queue d ≡ Ok (Some (chosen_as e draws d))
+      slice_get (all_free (member base budget) ts) place ≡ Some e → choice (member base budget) word Simple ts queue d ≡ Ok (Some (chosen_as e draws d))
   picked word d total place draws e queue t n p q at =
-      let ts = map live_of xs in
       let all = is_all base budget sets ts o of counts h in
       picked_is (member base budget) word ts queue d (all_free (member base budget) ts) e total place draws (all ∙ ap (λ (l : List PlainEvent). (let x : Asked (List PlainEvent) = Ok l in x)) (sym (ap or_none all)))
       (t ∙ total_is base budget sets ts o of counts h) n p q at

@@ -1,6 +1,7 @@
 -- What a bench answers, as the definitions say it.
-use Rattle.std.specs.Prelude.{◌≡◌, ◌<◌, ℕ, List, Option, Some, None, Result, Ok, Err, slice_get, option_map, filter_map}
+use Rattle.std.specs.Prelude.{◌≡◌, ◌<◌, ◌≤◌, ◌+◌, ℕ, List, Option, Some, None, Result, Ok, Err, OnErr, slice_get, option_map, filter_map}
 use Rattle.js_data.specs.Event.{PlainEvent}
+use Rattle.bp_draw.specs.Draws.{PlainDraw}
 use Rattle.bp_sets.specs.declared.fault.SetFault.TheVariants as set_fault
 use Rattle.bp_run.specs.Bodies as run
 use Rattle.bp_run.specs.Selecting.{Asked}
@@ -37,6 +38,14 @@ chosen_of queue drawn (Internal e) = Some (record { event = e; place = None; dra
 chosen_of queue drawn (External place) =
     option_map (λ e. record { event = e; place = Some place; drawn = drawn }) (slice_get queue place)
 chosen_of queue drawn Nothing = None
+
+-- At most one word is drawn of the same seed, and none where nothing is chosen or a set or memory
+-- failed.
+pub record Draws {E : Type 0} (old new : PlainDraw) (r : Result Choice E) : Type 0 where
+  pub seed : new.seed ≡ old.seed
+  pub drawn : (old.drawn ≤ new.drawn) × (new.drawn ≤ old.drawn + 1)
+  pub nothing : r ≡ Ok Nothing → new ≡ old
+  pub failed : OnErr r (new ≡ old)
 
 -- an event of the queue is one of this many
 abbrev pub IsWithin : ℕ → Choice → Type 0

@@ -12,11 +12,9 @@ ghost use Rattle.bp_select.specs.Benches.{empty_bench, Fits};
 ghost use Rattle.bp_select.specs.Answers.{AnswersAs, AnswersReach, IsWithin, chosen_of, enabled_of};
 
 use crate::asking::blocker;
-use crate::block_sets::Blocks;
-use crate::heeds::Heeds;
-use crate::selecting::{choose, enabled};
-use crate::settling::{note_changed, settle};
-use crate::tally::Tally;
+use crate::kept::Kept;
+use crate::question::Question;
+use crate::refreshing::note_changed;
 use crate::{Choice, Enabled, Reach, SelectFault};
 use bp_draw::Draw;
 use bp_live::StatedList;
@@ -27,23 +25,15 @@ use js_frames::Ground;
 use std::alloc::Global;
 use std::marker::Model;
 
-/// What the live b-threads state, by their numbers. Contracts see the list of statements, the block
-/// sets that are noted, what is known of events under these, and how many free events each b-thread
-/// requests.
+/// What the live b-threads state, by their numbers, and what is kept between questions. Contracts
+/// see the list of statements, and what is kept as one value.
 ///
-/// A bench fits a ground and a budget where what it knows is so under them. A new bench fits all
+/// A bench fits a ground and a budget where what it keeps is so under them. A new bench fits all
 /// of them.
 #[derive(Drop)]
 pub struct Bench {
     live: StatedList,
-    blocks: Blocks,
-    /// The numbers whose block sets may have changed since they were noted.
-    changed: Vec<u32>,
-    /// Whom an event may touch. Where b-threads are many, `reach` asks these alone; the invariant
-    /// says that no others need be asked.
-    heeds: Heeds,
-    /// How many free events each b-thread requests.
-    tally: Tally,
+    kept: Kept,
 }
 
 impl Model for Bench {
@@ -53,20 +43,16 @@ impl Model for Bench {
     ghost use Rattle.bp_select.specs.Benches.{PlainBench};
     ghost use Rattle.bp_select.specs.inner.Heeding.{AreKept};
     ghost use Rattle.bp_known.specs.Known.{sets_in};
-    ghost use Rattle.bp_select.specs.inner.Counted.{plain_tally};
+    ghost use Rattle.bp_select.specs.inner.Kept.{plain_kept};
 
     ghost Value = { PlainBench };
 
     ghost coded = { Prim.hlevel (codes, event_code, set_code) };
 
-    ghost view = { λ b. record {
-      live = b.live.live;
-      sets = b.blocks.sets;
-      told = b.blocks.told;
-      tally = plain_tally b.tally;
-    } };
+    ghost view = { λ b. record { live = b.live.live; kept = plain_kept b.kept } };
 
-    ghost invariant = { λ b. AreKept b.live.live (sets_in b.blocks.sets) b.changed.items b.heeds };
+    ghost invariant = { λ b.
+        AreKept b.live.live (sets_in b.kept.blocks.sets) b.kept.changed.items b.kept.heeds };
 }
 
 impl Bench {
@@ -77,10 +63,7 @@ impl Bench {
     {
         Bench {
             live: StatedList::new(alloc),
-            blocks: Blocks::new(alloc),
-            changed: Vec::new(alloc),
-            heeds: Heeds::new(alloc),
-            tally: Tally::new(alloc),
+            kept: Kept::new(alloc),
         }
     }
 
@@ -98,9 +81,14 @@ impl Bench {
     {
         // For the proof: what the list keeps.
         self.live.keeps();
-        note_changed(&mut self.changed, &self.blocks, number, &statement)?;
-        self.heeds.note(number)?;
-        self.tally.mark(number)?;
+        note_changed(
+            &mut self.kept.changed,
+            &self.kept.blocks,
+            number,
+            &statement,
+        )?;
+        self.kept.heeds.note(number)?;
+        self.kept.tally.mark(number)?;
         self.live.place(number, statement)
     }
 
@@ -126,19 +114,13 @@ impl Bench {
         ensures fits { Fits self.new (plain_ground ground.now) budget }
     {
         self.live.tidy();
-        let live = self.live.as_slice();
-        settle(
+        let question = Question {
             alloc,
             ground,
             budget,
-            live,
-            &mut self.blocks,
-            &mut self.tally,
-            &mut self.changed,
-        )?;
-        let heeds = &mut self.heeds;
-        let blocks = &mut self.blocks;
-        enabled(alloc, ground, budget, live, heeds, blocks, queue)
+            live: self.live.as_slice(),
+        };
+        self.kept.enabled(&question, queue)
     }
 
     /// Which event comes next, under this strategy. Of several candidates that remain, the next
@@ -171,22 +153,13 @@ impl Bench {
         ensures fits { Fits self.new (plain_ground ground.now) budget }
     {
         self.live.tidy();
-        let live = self.live.as_slice();
-        settle(
+        let question = Question {
             alloc,
             ground,
             budget,
-            live,
-            &mut self.blocks,
-            &mut self.tally,
-            &mut self.changed,
-        )?;
-        let heeds = &mut self.heeds;
-        let blocks = &mut self.blocks;
-        let tally = &mut self.tally;
-        choose(
-            alloc, ground, budget, strategy, live, heeds, blocks, tally, queue, draw,
-        )
+            live: self.live.as_slice(),
+        };
+        self.kept.choose(&question, strategy, queue, draw)
     }
 
     /// Whom the event reaches: those that it interrupts, and of the others those that request it or
@@ -209,8 +182,13 @@ impl Bench {
         ensures fits { Fits self.new (plain_ground ground.now) budget }
     {
         self.live.tidy();
-        let live = self.live.as_slice();
-        self.heeds.reach(alloc, ground, budget, live, event)
+        let question = Question {
+            alloc,
+            ground,
+            budget,
+            live: self.live.as_slice(),
+        };
+        self.kept.heeds.reach(&question, event)
     }
 
     /// The first live b-thread whose block set has the event.
@@ -232,7 +210,13 @@ impl Bench {
         ensures fits { Fits self.new (plain_ground ground.now) budget }
     {
         self.live.tidy();
-        blocker(alloc, ground, budget, self.live.as_slice(), event)
+        let question = Question {
+            alloc,
+            ground,
+            budget,
+            live: self.live.as_slice(),
+        };
+        blocker(&question, event)
     }
 
     /// Whether a live b-thread requests the event.

@@ -2,13 +2,14 @@
 ghost use Rattle.std.specs.Prelude.{◌≡◌, ◌<◌, ◌^◌, ℕ, [], List, Ok, get_or, length, map, option_map, IfOk, IfSome, OnOk, OnErr};
 ghost use Rattle.js_value.specs.Value.{PlainSet};
 ghost use Rattle.js_meaning.specs.State.{Ground as Base};
-ghost use Rattle.js_frames.specs.Places.{plain_ground};
 ghost use Rattle.bp_meaning.specs.Membership.{member};
 ghost use Rattle.bp_run.specs.Selecting.{Live, blocked, first_unblocked, unblocked};
 ghost use Rattle.bp_select.specs.Answers.{AnswersAs};
 ghost use Rattle.bp_known.specs.declared.known.Told.{Told};
 ghost use Rattle.bp_select.specs.Blocks.{AreOf};
 ghost use Rattle.bp_select.specs.inner.BlockSets.{known_of};
+ghost use Rattle.bp_select.specs.inner.Question.{has_of};
+ghost use Rattle.bp_select.specs.inner.Settled.{AreSettled, IsTold};
 ghost use Rattle.bp_live.specs.Candidates.{events_in, tops_of};
 ghost use Rattle.bp_known.specs.Known.{Sets, AreKnown, IsKnown, restated, sets_in};
 ghost use Rattle.bp_live.specs.Lives.{lent};
@@ -17,13 +18,13 @@ ghost use Rattle.bp_live.specs.Tops.{HaveTops};
 
 use crate::SelectFault;
 use crate::asking::blocked_by;
+use crate::question::Question;
 use bp_known::{Known, Told, renew};
 use bp_live::{Candidate, Stated, keep_if};
 use bp_log::Memory;
 use bp_roll::hash_of;
 use indexmap::IndexMap;
 use js_data::Event;
-use js_frames::Ground;
 use js_value::{EventSet, SetTree};
 use std::alloc::Global;
 use std::marker::Model;
@@ -168,21 +169,25 @@ impl Blocks {
     /// of the new sets. Its only error is out of memory: then nothing is known, and the sets stay.
     pub fn restate(
         &mut self,
-        alloc: Global,
-        ground: &Ground,
-        budget: u64,
+        question: &Question<'_>,
         number: u32,
         set: Option<&EventSet>,
     ) -> Result<(), Memory>
-        requires { AreKnown (plain_ground ground.now) budget (sets_in self.old.sets) self.old.told }
-        ensures known { AreKnown (plain_ground ground.now) budget (sets_in self.new.sets)
-            self.new.told }
+        requires { IsTold question.now self.old }
+        ensures told { IsTold question.now self.new }
         ensures sets { OnOk result ((n : ℕ) → sets_in self.new.sets n
             ≡ restated number (option_map (λ s. s.now) set.entry) (sets_in self.old.sets) n) }
         ensures same { OnErr result (self.new.sets ≡ self.old.sets) }
     {
-        let told = mem::replace(&mut self.told, Vec::new(alloc));
-        let renewed = renew(alloc, ground, budget, number, set, told)?;
+        let told = mem::replace(&mut self.told, Vec::new(question.alloc));
+        let renewed = renew(
+            question.alloc,
+            question.ground,
+            question.budget,
+            number,
+            set,
+            told,
+        )?;
         self.put(number, set)?;
         self.told = renewed;
         Ok(())
@@ -270,28 +275,22 @@ impl Blocks {
     /// Whether some b-thread blocks the event. Each is asked, unless that is known.
     fn is_blocked(
         &mut self,
-        alloc: Global,
-        ground: &Ground,
-        budget: u64,
+        question: &Question<'_>,
         blocking: &[&Stated],
         event: &Event,
     ) -> Result<bool, SelectFault>
-        requires order { AreInOrder (map lent blocking.now) }
-        requires sets { AreOf (map lent blocking.now) (sets_in self.old.sets) }
-        requires known { AreKnown (plain_ground ground.now) budget (sets_in self.old.sets)
-            self.old.told }
-        ensures blocked { let has = member (plain_ground ground.now) budget in
-            AnswersAs (λ b. b) (blocked has (map lent blocking.now) event.now) result }
+        requires settled { AreSettled question.now (map lent blocking.now) self.old }
+        ensures blocked { AnswersAs (λ b. b)
+            (blocked (has_of question.now) (map lent blocking.now) event.now) result }
         ensures sets { self.new.sets ≡ self.old.sets }
-        ensures known { AreKnown (plain_ground ground.now) budget (sets_in self.old.sets)
-            self.new.told }
+        ensures settled { AreSettled question.now (map lent blocking.now) self.new }
     {
         let hash = hash_of(event);
         match self.known(event, hash) {
             Known::Free => Ok(false),
             Known::Blocked(_) => Ok(true),
             Known::Unknown => {
-                let by = blocked_by(alloc, ground, budget, blocking, event)?;
+                let by = blocked_by(question, blocking, event)?;
                 self.note(event, hash, known_by(by));
                 Ok(by.is_some())
             }
@@ -301,28 +300,22 @@ impl Blocks {
     /// Those of the candidates that nobody blocks, in order.
     pub fn unblocked<'a>(
         &mut self,
-        alloc: Global,
-        ground: &Ground,
-        budget: u64,
+        question: &Question<'_>,
         blocking: &[&Stated],
         candidates: &[Candidate<'a>],
     ) -> Result<Vec<Candidate<'a>>, SelectFault>
-        requires order { AreInOrder (map lent blocking.now) }
-        requires sets { AreOf (map lent blocking.now) (sets_in self.old.sets) }
-        requires known { AreKnown (plain_ground ground.now) budget (sets_in self.old.sets)
-            self.old.told }
+        requires settled { AreSettled question.now (map lent blocking.now) self.old }
         ensures events { AnswersAs (λ l. events_in l.items)
-            (unblocked (member (plain_ground ground.now) budget) (map lent blocking.now)
-            (events_in candidates.now)) result }
+            (unblocked (has_of question.now) (map lent blocking.now) (events_in candidates.now))
+            result }
         ensures tops { (ts : List (Live PlainSet)) → HaveTops ts (tops_of candidates.now) →
             IfOk result (λ l. HaveTops ts (tops_of l.items)) }
         ensures sets { self.new.sets ≡ self.old.sets }
-        ensures known { AreKnown (plain_ground ground.now) budget (sets_in self.old.sets)
-            self.new.told }
+        ensures settled { AreSettled question.now (map lent blocking.now) self.new }
     {
-        let mut free = Vec::new(alloc);
+        let mut free = Vec::new(question.alloc);
         for candidate in candidates {
-            let blocked = self.is_blocked(alloc, ground, budget, blocking, candidate.event)?;
+            let blocked = self.is_blocked(question, blocking, candidate.event)?;
             keep_if(&mut free, !blocked, candidate)?;
         }
         Ok(free)
@@ -331,26 +324,19 @@ impl Blocks {
     /// The first place of the queue whose event nobody blocks. Asking stops there.
     pub fn first_unblocked(
         &mut self,
-        alloc: Global,
-        ground: &Ground,
-        budget: u64,
+        question: &Question<'_>,
         blocking: &[&Stated],
         queue: &[Event],
     ) -> Result<Option<u32>, SelectFault>
         requires few { length queue.now < 2 ^ 32 }
-        requires order { AreInOrder (map lent blocking.now) }
-        requires sets { AreOf (map lent blocking.now) (sets_in self.old.sets) }
-        requires known { AreKnown (plain_ground ground.now) budget (sets_in self.old.sets)
-            self.old.told }
+        requires settled { AreSettled question.now (map lent blocking.now) self.old }
         ensures place { AnswersAs (λ o. o)
-            (first_unblocked (member (plain_ground ground.now) budget) (map lent blocking.now) 0
-            queue.now) result }
+            (first_unblocked (has_of question.now) (map lent blocking.now) 0 queue.now) result }
         ensures sets { self.new.sets ≡ self.old.sets }
-        ensures known { AreKnown (plain_ground ground.now) budget (sets_in self.old.sets)
-            self.new.told }
+        ensures settled { AreSettled question.now (map lent blocking.now) self.new }
     {
         for (place, event) in queue.iter().enumerate() {
-            let blocked = self.is_blocked(alloc, ground, budget, blocking, event)?;
+            let blocked = self.is_blocked(question, blocking, event)?;
             if !blocked {
                 return Ok(Some(place as u32));
             }

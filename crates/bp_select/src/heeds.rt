@@ -1,9 +1,7 @@
 //! Whom an event may touch, found by the keys under which the b-threads are noted.
 ghost use Rattle.std.specs.Prelude.{◌≡◌, ◌<◌, ◌⊎◌, ℕ, List, false, get_or, length, map, nat_eq, true, IfOk, OnOk};
 ghost use Rattle.std.specs.List.Sorted.{IsNonDecreasing};
-ghost use Rattle.js_frames.specs.Places.{plain_ground};
 ghost use Rattle.js_value.specs.Value.{PlainSet};
-ghost use Rattle.bp_meaning.specs.Membership.{member};
 ghost use Rattle.bp_roll.specs.Rolls.{is_in, is_noted};
 ghost use Rattle.bp_run.specs.Selecting.{Live};
 ghost use Rattle.bp_run.specs.Choosing.{reach};
@@ -13,18 +11,19 @@ ghost use Rattle.bp_select.specs.inner.Heeding.{AreNoted, HeedsAt, IsNoted, Stay
 ghost use Rattle.bp_select.specs.Tallies.{Each};
 ghost use Rattle.bp_live.specs.Lives.{live_of, lent};
 ghost use Rattle.bp_select.specs.inner.Parts.{IsPart, asks_nothing, blocks_nothing};
+ghost use Rattle.bp_select.specs.inner.Question.{has_of, lives_of};
 ghost use Rattle.bp_live.specs.Places.{AreInOrder};
 ghost use Rattle.bp_live.specs.Numbers.{place_in};
 
 use crate::keys::{ANY, ASKS, BLOCKS, keys_of};
 use crate::picking::{all_asking, all_blocking, part_at};
+use crate::question::Question;
 use crate::reaching::{reach, reach_at};
 use crate::{Reach, SelectFault};
-use bp_live::{Stated, is_at, place_of};
+use bp_live::{Stated, is_at, place_of, stated_of};
 use bp_log::Memory;
 use bp_roll::{Changes, Roll, hash_of};
 use js_data::Event;
-use js_frames::Ground;
 use std::alloc::Global;
 
 /// This many b-threads are asked faster than it is found whom an event may touch.
@@ -51,11 +50,10 @@ fn keys_at(alloc: Global, live: &[Stated], number: u32) -> Result<Vec<u64>, Memo
     ensures { IfOk result (λ ks.
         Each (λ t. t.number ≡ number → HeedsAt (λ k. is_in k ks.items) t) (map live_of live.now)) }
 {
-    let at = place_of(live, number);
-    if !is_at(live, at, number) {
-        return Ok(Vec::new(alloc));
+    match stated_of(live, number) {
+        None => Ok(Vec::new(alloc)),
+        Some(stated) => keys_of(alloc, stated),
     }
-    keys_of(alloc, &live[at])
 }
 
 /// The b-thread of this number is noted under its keys.
@@ -261,7 +259,7 @@ impl Heeds {
     }
 
     /// Nobody counts as noted any more.
-    fn rest(&mut self)
+    fn forget(&mut self)
         ensures { self.new.whole ≡ false }
     {
         self.whole = false;
@@ -305,7 +303,7 @@ impl Heeds {
             self.new.changed }
     {
         if !self.is_worth(live.len()) {
-            self.rest();
+            self.forget();
             return all_asking(alloc, live);
         }
         self.begin(alloc, live)?;
@@ -328,30 +326,24 @@ impl Heeds {
     }
 
     /// Whom the event reaches. Where b-threads are many, those alone are asked that it may touch.
-    pub fn reach(
-        &mut self,
-        alloc: Global,
-        ground: &Ground,
-        budget: u64,
-        live: &[Stated],
-        event: &Event,
-    ) -> Result<Reach, SelectFault>
-        requires order { AreInOrder (map live_of live.now) }
-        requires noted { WhereWhole self.old.whole (map live_of live.now) self.old.roll
+    pub fn reach(&mut self, question: &Question<'_>, event: &Event) -> Result<Reach, SelectFault>
+        requires order { AreInOrder (lives_of question.now) }
+        requires noted { WhereWhole self.old.whole (lives_of question.now) self.old.roll
             self.old.changed }
         ensures reached { AnswersReach
-            (reach (member (plain_ground ground.now) budget) event.now (map live_of live.now))
-            result }
-        ensures noted { WhereWhole self.new.whole (map live_of live.now) self.new.roll
+            (reach (has_of question.now) event.now (lives_of question.now)) result }
+        ensures noted { WhereWhole self.new.whole (lives_of question.now) self.new.roll
             self.new.changed }
     {
+        let alloc = question.alloc;
+        let live = question.live;
         if !self.is_worth(live.len()) {
-            self.rest();
-            return reach(alloc, ground, budget, live, event);
+            self.forget();
+            return reach(question, event);
         }
         self.begin(alloc, live)?;
         self.settle(alloc, live)?;
         let places = places_of(alloc, live, &self.roll, event)?;
-        reach_at(alloc, ground, budget, live, places.as_slice(), event)
+        reach_at(question, places.as_slice(), event)
     }
 }

@@ -11,12 +11,15 @@ mod answers;
 mod asking;
 mod bench;
 mod block_sets;
+mod counting;
 mod heeds;
+mod kept;
 mod keys;
 mod picking;
+mod question;
 mod reaching;
+mod refreshing;
 mod selecting;
-mod settling;
 mod tally;
 
 pub use answers::{Choice, Enabled, Reach, SelectFault};

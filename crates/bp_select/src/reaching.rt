@@ -1,25 +1,23 @@
 //! Whom an event reaches.
-ghost use Rattle.std.specs.Prelude.{◌≡◌, ◌<◌, ◌≤◌, ◌⊎◌, ◌++◌, ℕ, false, get_or, length, map, filter_map, option_to_list, true, OnOk};
+ghost use Rattle.std.specs.Prelude.{◌≡◌, ◌<◌, ◌≤◌, ◌⊎◌, ◌++◌, ℕ, false, get_or, length, filter_map, option_to_list, true, OnOk};
 ghost use Rattle.std.specs.List.Sorted.{IsNonDecreasing};
-ghost use Rattle.js_frames.specs.Places.{plain_ground};
-ghost use Rattle.bp_meaning.specs.Membership.{member};
 ghost use Rattle.bp_sets.specs.Asked.{IsAbout};
 ghost use Rattle.bp_run.specs.Choosing.{touched, reach};
 ghost use Rattle.bp_live.specs.Lives.{live_of};
 ghost use Rattle.bp_roll.specs.Rolls.{is_in};
 ghost use Rattle.bp_live.specs.declared.stated.Stated.{Stated};
+ghost use Rattle.bp_select.specs.inner.Question.{base_of, has_of, lives_of};
 ghost use Rattle.bp_select.specs.inner.Touches.{AddsTouch, touch_as};
 ghost use Rattle.bp_select.specs.Answers.{AnswersAs, AnswersReach, move_of, interrupt_of};
 ghost use Rattle.bp_select.specs.inner.Heeding.{Stays};
 
 use crate::asking::ask_as;
+use crate::question::Question;
 use crate::{Reach, SelectFault};
 use bp_live::{Stated, requests};
 use bp_log::Memory;
 use bp_sets::Asked;
 use js_data::Event;
-use js_frames::Ground;
-use std::alloc::Global;
 
 /// What an event does to a b-thread.
 #[derive(Clone, Copy)]
@@ -35,44 +33,26 @@ pub(crate) enum Touch {
 /// What the event does to the b-thread. Its interrupt set is asked first, and its waitFor set only
 /// where it didn't request the event.
 fn touch_of(
-    alloc: Global,
-    ground: &Ground,
-    budget: u64,
+    question: &Question<'_>,
     stated: &Stated,
     event: &Event,
     asked: &mut Asked,
 ) -> Result<Touch, SelectFault>
-    requires { IsAbout (plain_ground ground.now) budget event.now asked.old }
+    requires { IsAbout (base_of question.now) question.now.budget event.now asked.old }
     ensures touches { AnswersAs (touch_as (live_of stated.now).number)
-        (touched (member (plain_ground ground.now) budget) event.now (live_of stated.now)) result }
-    ensures about { IsAbout (plain_ground ground.now) budget event.now asked.new }
+        (touched (has_of question.now) event.now (live_of stated.now)) result }
+    ensures about { IsAbout (base_of question.now) question.now.budget event.now asked.new }
 {
     let number = stated.number;
     let states = &stated.statement;
-    let interrupted = ask_as(
-        alloc,
-        ground,
-        budget,
-        number,
-        &states.interrupt,
-        event,
-        asked,
-    )?;
+    let interrupted = ask_as(question, number, &states.interrupt, event, asked)?;
     if interrupted {
         return Ok(Touch::Interrupts);
     }
     if requests(event, stated) {
         return Ok(Touch::Moves);
     }
-    let waited = ask_as(
-        alloc,
-        ground,
-        budget,
-        number,
-        &states.wait_for,
-        event,
-        asked,
-    )?;
+    let waited = ask_as(question, number, &states.wait_for, event, asked)?;
     if waited {
         Ok(Touch::Moves)
     } else {
@@ -98,46 +78,36 @@ fn note(reach: &mut Reach, number: u32, touch: Touch) -> Result<(), Memory>
 
 /// Notes what the event does to the b-thread at this place.
 fn ask_at(
-    alloc: Global,
-    ground: &Ground,
-    budget: u64,
-    live: &[Stated],
+    question: &Question<'_>,
     place: usize,
     event: &Event,
     asked: &mut Asked,
     reach: &mut Reach,
 ) -> Result<(), SelectFault>
-    requires place { place < length live.now }
-    requires about { IsAbout (plain_ground ground.now) budget event.now asked.old }
-    ensures adds { (d : Stated) → let t = live_of (get_or live.now place d) in
-        AddsTouch (touched (member (plain_ground ground.now) budget) event.now t) reach.old
-        reach.new result }
-    ensures about { IsAbout (plain_ground ground.now) budget event.now asked.new }
+    requires place { place < length question.now.live.now }
+    requires about { IsAbout (base_of question.now) question.now.budget event.now asked.old }
+    ensures adds { (d : Stated) → let t = live_of (get_or question.now.live.now place d) in
+        AddsTouch (touched (has_of question.now) event.now t) reach.old reach.new result }
+    ensures about { IsAbout (base_of question.now) question.now.budget event.now asked.new }
 {
-    let stated = &live[place];
-    let touch = touch_of(alloc, ground, budget, stated, event, asked)?;
+    let stated = &question.live[place];
+    let touch = touch_of(question, stated, event, asked)?;
     note(reach, stated.number, touch)?;
     Ok(())
 }
 
 /// Whom the event reaches.
-pub(crate) fn reach(
-    alloc: Global,
-    ground: &Ground,
-    budget: u64,
-    live: &[Stated],
-    event: &Event,
-) -> Result<Reach, SelectFault>
+pub(crate) fn reach(question: &Question<'_>, event: &Event) -> Result<Reach, SelectFault>
     ensures { AnswersReach
-        (reach (member (plain_ground ground.now) budget) event.now (map live_of live.now)) result }
+        (reach (has_of question.now) event.now (lives_of question.now)) result }
 {
     let mut reached = Reach {
-        moved: Vec::new(alloc),
-        interrupted: Vec::new(alloc),
+        moved: Vec::new(question.alloc),
+        interrupted: Vec::new(question.alloc),
     };
     let mut asked = Asked::new();
-    for stated in live {
-        let touch = touch_of(alloc, ground, budget, stated, event, &mut asked)?;
+    for stated in question.live {
+        let touch = touch_of(question, stated, event, &mut asked)?;
         note(&mut reached, stated.number, touch)?;
     }
     Ok(reached)
@@ -153,38 +123,26 @@ pub(crate) fn is_between(place: usize, first: usize, last: usize) -> bool
 
 /// Whom the event reaches, where it may touch those at these places alone.
 pub(crate) fn reach_at(
-    alloc: Global,
-    ground: &Ground,
-    budget: u64,
-    live: &[Stated],
+    question: &Question<'_>,
     places: &[usize],
     event: &Event,
 ) -> Result<Reach, SelectFault>
     requires order { IsNonDecreasing places.now }
-    requires others { (i : ℕ) (d : Stated) → i < length live.now →
-        (is_in i places.now ≡ true) ⊎ Stays event.now (live_of (get_or live.now i d)) }
+    requires others { let live = question.now.live.now in (i : ℕ) (d : Stated) → i < length live →
+        (is_in i places.now ≡ true) ⊎ Stays event.now (live_of (get_or live i d)) }
     ensures { AnswersReach
-        (reach (member (plain_ground ground.now) budget) event.now (map live_of live.now)) result }
+        (reach (has_of question.now) event.now (lives_of question.now)) result }
 {
     let mut reached = Reach {
-        moved: Vec::new(alloc),
-        interrupted: Vec::new(alloc),
+        moved: Vec::new(question.alloc),
+        interrupted: Vec::new(question.alloc),
     };
     let mut asked = Asked::new();
     let mut done = 0;
     for place in places {
-        if is_between(*place, done, live.len()) {
+        if is_between(*place, done, question.live.len()) {
             let place = *place;
-            ask_at(
-                alloc,
-                ground,
-                budget,
-                live,
-                place,
-                event,
-                &mut asked,
-                &mut reached,
-            )?;
+            ask_at(question, place, event, &mut asked, &mut reached)?;
             done = place + 1;
         }
     }

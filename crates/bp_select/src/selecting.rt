@@ -1,37 +1,29 @@
 //! What can be selected, and which of it is chosen.
-ghost use Rattle.std.specs.Prelude.{◌≡◌, ◌<◌, ◌≤◌, ◌+◌, ◌^◌, ℕ, [], List, Ok, None, length, map, true, IfOk, IfSome, OnErr};
+ghost use Rattle.std.specs.Prelude.{◌≡◌, ◌<◌, ◌+◌, ◌^◌, [], List, Ok, None, length, map, true, IfOk, IfSome};
 ghost use Rattle.js_data.specs.Event.{PlainEvent};
-ghost use Rattle.js_frames.specs.Places.{plain_ground};
 ghost use Rattle.bp_draw.specs.Words.{draw_word};
-ghost use Rattle.bp_meaning.specs.Membership.{member};
 ghost use Rattle.js_value.specs.Value.{PlainSet};
-ghost use Rattle.bp_run.specs.Selecting.{Live, without_fault, first_unblocked, selectable};
+ghost use Rattle.bp_run.specs.Selecting.{Live, without_fault, first_unblocked, selectable, candidates};
 ghost use Rattle.bp_run.specs.Choosing.{choice, drawn_of, chosen};
-ghost use Rattle.bp_live.specs.Lives.{lent, live_of};
-ghost use Rattle.bp_select.specs.Tallies.{Each, Tallied};
-ghost use Rattle.bp_select.specs.inner.Counted.{plain_tally};
-ghost use Rattle.bp_select.specs.inner.Heeding.{IsNoted, WhereWhole};
-ghost use Rattle.js_meaning.specs.State.{Ground as Base};
-ghost use Rattle.bp_select.specs.Answers.{AnswersAs, IsWithin, chosen_of, enabled_of};
+ghost use Rattle.bp_live.specs.Lives.{lent};
+ghost use Rattle.bp_select.specs.Answers.{AnswersAs, IsWithin, chosen_of, enabled_of, Draws};
 ghost use Rattle.bp_select.specs.inner.Eligible.{IsFrom, IsOf, eligible_of};
-ghost use Rattle.bp_select.specs.Blocks.{AreOf};
 ghost use Rattle.bp_live.specs.Candidates.{events_in, tops_of};
-ghost use Rattle.bp_known.specs.Known.{AreKnown, sets_in};
 ghost use Rattle.bp_select.specs.inner.Settled.{AreSettled};
 ghost use Rattle.bp_select.specs.inner.Parts.{IsPart, asks_nothing, blocks_nothing};
-ghost use Rattle.bp_live.specs.Places.{AreInOrder};
-ghost use Rattle.bp_live.specs.Tops.{with_live};
+ghost use Rattle.bp_select.specs.inner.Question.{has_of, lives_of};
+ghost use Rattle.bp_select.specs.inner.Kept.{AreAllNoted, IsFresh, IsKept};
+ghost use Rattle.bp_live.specs.Tops.{HaveTops};
 
 use crate::asking::{first_unblocked, unblocked};
 use crate::block_sets::Blocks;
-use crate::heeds::Heeds;
-use crate::tally::{Tally, quick};
+use crate::kept::Kept;
+use crate::question::Question;
 use crate::{Choice, Enabled, SelectFault};
 use bp_draw::Draw;
 use bp_live::{Candidate, Stated, candidates, remaining};
 use bp_log::{Memory, Strategy};
 use js_data::Event;
-use js_frames::Ground;
 use std::alloc::Global;
 
 /// What can be selected.
@@ -80,20 +72,17 @@ impl<'a> Eligible<'a> {
 
 /// What can be selected of the queue.
 fn queued<'a>(
-    alloc: Global,
-    ground: &Ground,
-    budget: u64,
+    question: &Question<'_>,
     blocking: &[&Stated],
     queue: &[Event],
 ) -> Result<Eligible<'a>, SelectFault>
     requires { length queue.now < 2 ^ 32 }
     ensures eligible { AnswersAs eligible_of
         (without_fault (λ place. record { inner = []; outer = place })
-        (first_unblocked (member (plain_ground ground.now) budget) (map lent blocking.now) 0
-        queue.now)) result }
+        (first_unblocked (has_of question.now) (map lent blocking.now) 0 queue.now)) result }
     ensures tops { (ts : List (Live PlainSet)) → IfOk result (λ f. IsOf ts f) }
 {
-    match first_unblocked(alloc, ground, budget, blocking, queue)? {
+    match first_unblocked(question, blocking, queue)? {
         Some(place) => Ok(Eligible::Outer(place)),
         None => Ok(Eligible::Nothing),
     }
@@ -101,53 +90,44 @@ fn queued<'a>(
 
 /// What can be selected, where each block set is asked of each event.
 fn asked<'a>(
-    alloc: Global,
-    ground: &Ground,
-    budget: u64,
+    question: &Question<'_>,
     blocking: &[&Stated],
-    candidates: Vec<Candidate<'a>>,
+    requested: Vec<Candidate<'a>>,
     queue: &[Event],
 ) -> Result<Eligible<'a>, SelectFault>
-    requires { length queue.now < 2 ^ 32 }
-    ensures eligible { (ts : List (Live PlainSet)) → tops_of candidates.entry.items ≡ with_live [] ts →
-        IsPart blocks_nothing (map lent blocking.now) ts →
-        let has = member (plain_ground ground.now) budget in
-        AnswersAs eligible_of (selectable has ts queue.now) result }
-    ensures tops { (ts : List (Live PlainSet)) → tops_of candidates.entry.items ≡ with_live [] ts →
+    requires few { length queue.now < 2 ^ 32 }
+    requires blocking { IsPart blocks_nothing (map lent blocking.now) (lives_of question.now) }
+    requires events { events_in requested.items ≡ candidates (lives_of question.now) }
+    ensures eligible { AnswersAs eligible_of
+        (selectable (has_of question.now) (lives_of question.now) queue.now) result }
+    ensures tops { (ts : List (Live PlainSet)) → HaveTops ts (tops_of requested.entry.items) →
         IfOk result (λ f. IsOf ts f) }
 {
-    let inner = unblocked(alloc, ground, budget, blocking, candidates.as_slice())?;
+    let inner = unblocked(question, blocking, requested.as_slice())?;
     let count = inner.as_slice().len();
     if count == 0 {
-        return queued(alloc, ground, budget, blocking, queue);
+        return queued(question, blocking, queue);
     }
     Ok(Eligible::Inner(inner))
 }
 
 /// What can be selected of the queue, where it is known of events whether they are blocked.
 fn queued_told<'a>(
-    alloc: Global,
-    ground: &Ground,
-    budget: u64,
+    question: &Question<'_>,
     blocking: &[&Stated],
     blocks: &mut Blocks,
     queue: &[Event],
 ) -> Result<Eligible<'a>, SelectFault>
     requires few { length queue.now < 2 ^ 32 }
-    requires order { AreInOrder (map lent blocking.now) }
-    requires sets { AreOf (map lent blocking.now) (sets_in blocks.old.sets) }
-    requires known { AreKnown (plain_ground ground.now) budget (sets_in blocks.old.sets)
-        blocks.old.told }
+    requires settled { AreSettled question.now (map lent blocking.now) blocks.old }
     ensures eligible { AnswersAs eligible_of
         (without_fault (λ place. record { inner = []; outer = place })
-        (first_unblocked (member (plain_ground ground.now) budget) (map lent blocking.now) 0
-        queue.now)) result }
+        (first_unblocked (has_of question.now) (map lent blocking.now) 0 queue.now)) result }
     ensures tops { (ts : List (Live PlainSet)) → IfOk result (λ f. IsOf ts f) }
     ensures sets { blocks.new.sets ≡ blocks.old.sets }
-    ensures known { AreKnown (plain_ground ground.now) budget (sets_in blocks.old.sets)
-        blocks.new.told }
+    ensures settled { AreSettled question.now (map lent blocking.now) blocks.new }
 {
-    match blocks.first_unblocked(alloc, ground, budget, blocking, queue)? {
+    match blocks.first_unblocked(question, blocking, queue)? {
         Some(place) => {
             blocks.note_waiting(place as usize);
             Ok(Eligible::Outer(place))
@@ -161,53 +141,45 @@ fn queued_told<'a>(
 
 /// What can be selected, where it is known of events whether they are blocked.
 fn told<'a>(
-    alloc: Global,
-    ground: &Ground,
-    budget: u64,
+    question: &Question<'_>,
     blocking: &[&Stated],
     blocks: &mut Blocks,
-    candidates: Vec<Candidate<'a>>,
+    requested: Vec<Candidate<'a>>,
     queue: &[Event],
 ) -> Result<Eligible<'a>, SelectFault>
     requires few { length queue.now < 2 ^ 32 }
-    requires order { AreInOrder (map lent blocking.now) }
-    requires sets { AreOf (map lent blocking.now) (sets_in blocks.old.sets) }
-    requires known { AreKnown (plain_ground ground.now) budget (sets_in blocks.old.sets)
-        blocks.old.told }
-    ensures eligible { (ts : List (Live PlainSet)) → tops_of candidates.entry.items ≡ with_live [] ts →
-        IsPart blocks_nothing (map lent blocking.now) ts →
-        let has = member (plain_ground ground.now) budget in
-        AnswersAs eligible_of (selectable has ts queue.now) result }
-    ensures tops { (ts : List (Live PlainSet)) → tops_of candidates.entry.items ≡ with_live [] ts →
+    requires settled { AreSettled question.now (map lent blocking.now) blocks.old }
+    requires blocking { IsPart blocks_nothing (map lent blocking.now) (lives_of question.now) }
+    requires events { events_in requested.items ≡ candidates (lives_of question.now) }
+    ensures eligible { AnswersAs eligible_of
+        (selectable (has_of question.now) (lives_of question.now) queue.now) result }
+    ensures tops { (ts : List (Live PlainSet)) → HaveTops ts (tops_of requested.entry.items) →
         IfOk result (λ f. IsOf ts f) }
     ensures sets { blocks.new.sets ≡ blocks.old.sets }
-    ensures known { AreKnown (plain_ground ground.now) budget (sets_in blocks.old.sets)
-        blocks.new.told }
+    ensures settled { AreSettled question.now (map lent blocking.now) blocks.new }
 {
-    let inner = blocks.unblocked(alloc, ground, budget, blocking, candidates.as_slice())?;
+    let inner = blocks.unblocked(question, blocking, requested.as_slice())?;
     let count = inner.as_slice().len();
     if count == 0 {
-        return queued_told(alloc, ground, budget, blocking, blocks, queue);
+        return queued_told(question, blocking, blocks, queue);
     }
     Ok(Eligible::Inner(inner))
 }
 
 /// The candidates that nobody blocks, if that is known of each and there are some.
 fn known<'a>(
-    alloc: Global,
+    question: &Question<'_>,
     blocks: &Blocks,
-    candidates: &[Candidate<'a>],
+    requested: &[Candidate<'a>],
 ) -> Result<Option<Eligible<'a>>, Memory>
-    ensures eligible { (base : Base) (budget : ℕ) → let sets = sets_in blocks.now.sets in
-        AreKnown base budget sets blocks.now.told →
-        (ts : List (Live PlainSet)) → AreInOrder ts → AreOf ts sets →
-        tops_of candidates.now ≡ with_live [] ts → (queue : List PlainEvent) →
-        IfOk result (λ o. IfSome o (λ f.
-        selectable (member base budget) ts queue ≡ Ok (eligible_of f))) }
-    ensures tops { (ts : List (Live PlainSet)) → tops_of candidates.now ≡ with_live [] ts →
+    requires settled { AreSettled question.now (lives_of question.now) blocks.now }
+    requires events { events_in requested.now ≡ candidates (lives_of question.now) }
+    ensures eligible { (queue : List PlainEvent) → IfOk result (λ o. IfSome o (λ f.
+        selectable (has_of question.now) (lives_of question.now) queue ≡ Ok (eligible_of f))) }
+    ensures tops { (ts : List (Live PlainSet)) → HaveTops ts (tops_of requested.now) →
         IfOk result (λ o. IfSome o (λ f. IsOf ts f)) }
 {
-    let Some(inner) = blocks.known_free(alloc, candidates)? else {
+    let Some(inner) = blocks.known_free(question.alloc, requested)? else {
         return Ok(None);
     };
     let count = inner.as_slice().len();
@@ -217,56 +189,14 @@ fn known<'a>(
     Ok(Some(Eligible::Inner(inner)))
 }
 
-/// What can be selected: candidates that nobody blocks, or else of the queue. Those that block
-/// something are gathered only where they must be asked.
-pub(crate) fn selectable<'a>(
-    alloc: Global,
-    ground: &Ground,
-    budget: u64,
-    live: &[Stated],
-    heeds: &Heeds,
-    asking: &[&'a Stated],
-    blocks: &mut Blocks,
-    queue: &[Event],
-) -> Result<Eligible<'a>, SelectFault>
-    requires few { length queue.now < 2 ^ 32 }
-    requires settled { AreSettled (plain_ground ground.now) budget (map live_of live.now) blocks.old }
-    requires noted { heeds.now.whole ≡ true →
-        Each (λ t. IsNoted heeds.now.roll t) (map live_of live.now) }
-    requires asking { IsPart asks_nothing (map lent asking.now) (map live_of live.now) }
-    ensures eligible { let has = member (plain_ground ground.now) budget in
-        AnswersAs eligible_of (selectable has (map live_of live.now) queue.now) result }
-    ensures tops { IfOk result (λ f. IsOf (map lent asking.now) f) }
-    ensures sets { blocks.new.sets ≡ blocks.old.sets }
-    ensures settled { AreSettled (plain_ground ground.now) budget (map live_of live.now) blocks.new }
-{
-    let candidates = candidates(alloc, asking)?;
-    if blocks.are_cheap() {
-        let few = heeds.blocking(alloc, live)?;
-        let few = few.as_slice();
-        return asked(alloc, ground, budget, few, candidates, queue);
-    }
-    blocks.begin_question(candidates.len());
-    let requested = candidates.as_slice();
-    if let Some(found) = known(alloc, blocks, requested)? {
-        return Ok(found);
-    }
-    let blocking = heeds.blocking(alloc, live)?;
-    let blocking = blocking.as_slice();
-    told(alloc, ground, budget, blocking, blocks, candidates, queue)
-}
-
 /// The event that is drawn of these: the only one, or the one at the next word modulo their number.
 /// Its only error is out of memory, and then nothing was drawn.
 pub(crate) fn drawn(draw: &mut Draw, remaining: &[Candidate<'_>]) -> Result<Choice, Memory>
     requires { draw.old.drawn + 1 < 2 ^ 64 }
     ensures chosen { IfOk result (λ c. (queue : List PlainEvent) → chosen_of queue draw.new.drawn c
         ≡ drawn_of (draw_word draw.old.seed) draw.old.drawn (events_in remaining.now)) }
-    ensures seed { draw.new.seed ≡ draw.old.seed }
-    ensures drawn { (draw.old.drawn ≤ draw.new.drawn) × (draw.new.drawn ≤ draw.old.drawn + 1) }
     ensures place { IfOk result (IsFrom None) }
-    ensures nothing { result ≡ Ok Choice.Nothing → draw.new ≡ draw.old }
-    ensures failed { OnErr result (draw.new ≡ draw.old) }
+    ensures draws { Draws draw.old draw.new result }
 {
     match remaining {
         [] => Ok(Choice::Nothing),
@@ -294,11 +224,8 @@ pub(crate) fn chosen<'a>(
     ensures chosen { IfOk result (λ c. (queue : List PlainEvent) → chosen_of queue draw.new.drawn c
         ≡ chosen (draw_word draw.old.seed) strategy (map lent asking.now) queue draw.old.drawn
         (eligible_of found.entry).inner (eligible_of found.entry).outer) }
-    ensures seed { draw.new.seed ≡ draw.old.seed }
-    ensures drawn { (draw.old.drawn ≤ draw.new.drawn) × (draw.new.drawn ≤ draw.old.drawn + 1) }
     ensures place { IfOk result (IsFrom (eligible_of found.entry).outer) }
-    ensures nothing { result ≡ Ok Choice.Nothing → draw.new ≡ draw.old }
-    ensures failed { OnErr result (draw.new ≡ draw.old) }
+    ensures draws { Draws draw.old draw.new result }
 {
     match found {
         Eligible::Inner(inner) => {
@@ -310,111 +237,109 @@ pub(crate) fn chosen<'a>(
     }
 }
 
-/// What can be selected, as a bench answers it.
-pub(crate) fn enabled(
-    alloc: Global,
-    ground: &Ground,
-    budget: u64,
-    live: &[Stated],
-    heeds: &mut Heeds,
-    blocks: &mut Blocks,
-    queue: &[Event],
-) -> Result<Enabled, SelectFault>
-    requires few { length queue.now < 2 ^ 32 }
-    requires settled { AreSettled (plain_ground ground.now) budget (map live_of live.now) blocks.old }
-    requires noted { WhereWhole heeds.old.whole (map live_of live.now) heeds.old.roll
-        heeds.old.changed }
-    ensures enabled { let has = member (plain_ground ground.now) budget in
-        AnswersAs enabled_of (selectable has (map live_of live.now) queue.now) result }
-    ensures noted { WhereWhole heeds.new.whole (map live_of live.now) heeds.new.roll
-        heeds.new.changed }
-    ensures sets { blocks.new.sets ≡ blocks.old.sets }
-    ensures settled { AreSettled (plain_ground ground.now) budget (map live_of live.now) blocks.new }
-{
-    let asking = heeds.asking(alloc, live)?;
-    let asking = asking.as_slice();
-    let found = selectable(alloc, ground, budget, live, heeds, asking, blocks, queue)?;
-    Ok(found.into_enabled(alloc)?)
-}
-
-/// Which event comes next, where each candidate is looked at.
-fn choose_of_all(
-    alloc: Global,
-    ground: &Ground,
-    budget: u64,
-    strategy: Strategy,
-    live: &[Stated],
-    heeds: &mut Heeds,
-    blocks: &mut Blocks,
-    queue: &[Event],
-    draw: &mut Draw,
-) -> Result<Choice, SelectFault>
-    requires few { length queue.now < 2 ^ 32 }
-    requires words { draw.old.drawn + 1 < 2 ^ 64 }
-    requires settled { AreSettled (plain_ground ground.now) budget (map live_of live.now) blocks.old }
-    requires noted { WhereWhole heeds.old.whole (map live_of live.now) heeds.old.roll
-        heeds.old.changed }
-    ensures chosen { AnswersAs (chosen_of queue.now draw.new.drawn)
-        (choice (member (plain_ground ground.now) budget) (draw_word draw.old.seed) strategy
-        (map live_of live.now) queue.now draw.old.drawn) result }
-    ensures seed { draw.new.seed ≡ draw.old.seed }
-    ensures drawn { (draw.old.drawn ≤ draw.new.drawn) × (draw.new.drawn ≤ draw.old.drawn + 1) }
-    ensures within { IfOk result (IsWithin (length queue.now)) }
-    ensures nothing { result ≡ Ok Choice.Nothing → draw.new ≡ draw.old }
-    ensures failed { OnErr result (draw.new ≡ draw.old) }
-    ensures noted { WhereWhole heeds.new.whole (map live_of live.now) heeds.new.roll
-        heeds.new.changed }
-    ensures sets { blocks.new.sets ≡ blocks.old.sets }
-    ensures settled { AreSettled (plain_ground ground.now) budget (map live_of live.now) blocks.new }
-{
-    let asking = heeds.asking(alloc, live)?;
-    let asking = asking.as_slice();
-    let found = selectable(alloc, ground, budget, live, heeds, asking, blocks, queue)?;
-    Ok(chosen(alloc, strategy, asking, found, draw)?)
-}
-
-/// Which event comes next, found by counts where that serves.
-pub(crate) fn choose(
-    alloc: Global,
-    ground: &Ground,
-    budget: u64,
-    strategy: Strategy,
-    live: &[Stated],
-    heeds: &mut Heeds,
-    blocks: &mut Blocks,
-    tally: &mut Tally,
-    queue: &[Event],
-    draw: &mut Draw,
-) -> Result<Choice, SelectFault>
-    requires few { length queue.now < 2 ^ 32 }
-    requires words { draw.old.drawn + 1 < 2 ^ 64 }
-    requires settled { AreSettled (plain_ground ground.now) budget (map live_of live.now) blocks.old }
-    requires noted { WhereWhole heeds.old.whole (map live_of live.now) heeds.old.roll
-        heeds.old.changed }
-    requires tallied { Tallied (plain_ground ground.now) budget (sets_in blocks.old.sets)
-        (map live_of live.now) (plain_tally tally.old) }
-    ensures chosen { AnswersAs (chosen_of queue.now draw.new.drawn)
-        (choice (member (plain_ground ground.now) budget) (draw_word draw.old.seed) strategy
-        (map live_of live.now) queue.now draw.old.drawn) result }
-    ensures seed { draw.new.seed ≡ draw.old.seed }
-    ensures drawn { (draw.old.drawn ≤ draw.new.drawn) × (draw.new.drawn ≤ draw.old.drawn + 1) }
-    ensures within { IfOk result (IsWithin (length queue.now)) }
-    ensures nothing { result ≡ Ok Choice.Nothing → draw.new ≡ draw.old }
-    ensures failed { OnErr result (draw.new ≡ draw.old) }
-    ensures noted { WhereWhole heeds.new.whole (map live_of live.now) heeds.new.roll
-        heeds.new.changed }
-    ensures sets { blocks.new.sets ≡ blocks.old.sets }
-    ensures settled { AreSettled (plain_ground ground.now) budget (map live_of live.now) blocks.new }
-    ensures tallied { Tallied (plain_ground ground.now) budget (sets_in blocks.old.sets)
-        (map live_of live.now) (plain_tally tally.new) }
-{
-    let picked = quick(
-        alloc, ground, budget, strategy, live, heeds, blocks, tally, draw,
-    )?;
-    if let Some(picked) = picked {
-        return Ok(picked.into_choice(draw));
+impl Kept {
+    /// What can be selected: candidates that nobody blocks, or else of the queue. Those that block
+    /// something are gathered only where they must be asked.
+    fn selectable<'a>(
+        &mut self,
+        question: &Question<'_>,
+        asking: &[&'a Stated],
+        queue: &[Event],
+    ) -> Result<Eligible<'a>, SelectFault>
+        requires few { length queue.now < 2 ^ 32 }
+        requires kept { IsKept question.now self.old }
+        requires fresh { IsFresh self.old }
+        requires noted { self.old.heeds.whole ≡ true → AreAllNoted question.now self.old }
+        requires asking { IsPart asks_nothing (map lent asking.now) (lives_of question.now) }
+        ensures eligible { AnswersAs eligible_of
+            (selectable (has_of question.now) (lives_of question.now) queue.now) result }
+        ensures tops { IfOk result (λ f. IsOf (map lent asking.now) f) }
+        ensures kept { IsKept question.now self.new }
+    {
+        let candidates = candidates(question.alloc, asking)?;
+        if self.blocks.are_cheap() {
+            let few = self.heeds.blocking(question.alloc, question.live)?;
+            return asked(question, few.as_slice(), candidates, queue);
+        }
+        self.blocks.begin_question(candidates.len());
+        if let Some(found) = known(question, &self.blocks, candidates.as_slice())? {
+            return Ok(found);
+        }
+        let blocking = self.heeds.blocking(question.alloc, question.live)?;
+        told(
+            question,
+            blocking.as_slice(),
+            &mut self.blocks,
+            candidates,
+            queue,
+        )
     }
-    choose_of_all(
-        alloc, ground, budget, strategy, live, heeds, blocks, queue, draw,
-    )
+
+    /// What can be selected, as a bench answers it.
+    pub fn enabled(
+        &mut self,
+        question: &Question<'_>,
+        queue: &[Event],
+    ) -> Result<Enabled, SelectFault>
+        requires few { length queue.now < 2 ^ 32 }
+        requires kept { IsKept question.now self.old }
+        ensures enabled { AnswersAs enabled_of
+            (selectable (has_of question.now) (lives_of question.now) queue.now) result }
+        ensures kept { IsKept question.now self.new }
+    {
+        self.refresh(question)?;
+        let asking = self.heeds.asking(question.alloc, question.live)?;
+        let found = self.selectable(question, asking.as_slice(), queue)?;
+        Ok(found.into_enabled(question.alloc)?)
+    }
+
+    /// Which event comes next, where each candidate is looked at.
+    fn choose_of_all(
+        &mut self,
+        question: &Question<'_>,
+        strategy: Strategy,
+        queue: &[Event],
+        draw: &mut Draw,
+    ) -> Result<Choice, SelectFault>
+        requires few { length queue.now < 2 ^ 32 }
+        requires words { draw.old.drawn + 1 < 2 ^ 64 }
+        requires kept { IsKept question.now self.old }
+        requires fresh { IsFresh self.old }
+        ensures chosen { AnswersAs (chosen_of queue.now draw.new.drawn)
+            (choice (has_of question.now) (draw_word draw.old.seed) strategy
+            (lives_of question.now) queue.now draw.old.drawn) result }
+        ensures within { IfOk result (IsWithin (length queue.now)) }
+        ensures draws { Draws draw.old draw.new result }
+        ensures kept { IsKept question.now self.new }
+    {
+        let asking = self.heeds.asking(question.alloc, question.live)?;
+        let asking = asking.as_slice();
+        let found = self.selectable(question, asking, queue)?;
+        Ok(chosen(question.alloc, strategy, asking, found, draw)?)
+    }
+
+    /// Which event comes next, found by counts where that serves.
+    pub fn choose(
+        &mut self,
+        question: &Question<'_>,
+        strategy: Strategy,
+        queue: &[Event],
+        draw: &mut Draw,
+    ) -> Result<Choice, SelectFault>
+        requires few { length queue.now < 2 ^ 32 }
+        requires words { draw.old.drawn + 1 < 2 ^ 64 }
+        requires kept { IsKept question.now self.old }
+        ensures chosen { AnswersAs (chosen_of queue.now draw.new.drawn)
+            (choice (has_of question.now) (draw_word draw.old.seed) strategy
+            (lives_of question.now) queue.now draw.old.drawn) result }
+        ensures within { IfOk result (IsWithin (length queue.now)) }
+        ensures draws { Draws draw.old draw.new result }
+        ensures kept { IsKept question.now self.new }
+    {
+        self.refresh(question)?;
+        if let Some(picked) = self.quick(question, strategy, draw)? {
+            return Ok(picked.into_choice(draw));
+        }
+        self.choose_of_all(question, strategy, queue, draw)
+    }
 }

@@ -1,6 +1,6 @@
 use Rattle.std.proofs.Common.{◌≡◌, [], map, drop}
 use Rattle.bp_live.specs.Lives.{lent}
-use Rattle.bp_live.specs.Tops.{with_live}
+use Rattle.bp_live.specs.inner.Gathering.{with_live}
 use Rattle.bp_live.specs.Candidates.{tops_in}
 use Rattle.bp_live.proofs.gathering.candidates.Given as goal
 

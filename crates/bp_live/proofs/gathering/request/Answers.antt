@@ -1,6 +1,6 @@
 use Rattle.std.proofs.Common.{◌∙◌, ℤ, List, Option, map, ap, w64, SFits, to_z-of_z, rules}
 use Rattle.bp_roll.specs.declared.key.Key.{Key}
-use Rattle.bp_live.specs.Tops.{raised}
+use Rattle.bp_live.specs.inner.Gathering.{raised}
 use Rattle.bp_live.proofs.Entered.{entered}
 use Rattle.bp_live.proofs.gathering.request.Goals as goal
 

@@ -1,6 +1,6 @@
 use Rattle.std.proofs.Common.{◌≡◌, ◌<◌, ◌≤◌, ◌∙◌, ℤ, List, length, get_or, subst, ap, w64, SFits, to_z-of_z, rules}
 use Rattle.js_data.specs.Event.{PlainEvent}
-use Rattle.bp_live.specs.Tops.{with_request, with_requests}
+use Rattle.bp_live.specs.inner.Gathering.{with_request, with_requests}
 use Rattle.bp_live.specs.Candidates.{tops_in}
 use Rattle.bp_live.proofs.Entered.{requests_step, requests_last}
 use Rattle.bp_live.proofs.gathering.request_all.Goals as goal

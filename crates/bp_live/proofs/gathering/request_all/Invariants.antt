@@ -1,6 +1,6 @@
 use Rattle.std.proofs.Common.{◌≡◌, drop}
 use Rattle.bp_live.specs.Lives.{live_of}
-use Rattle.bp_live.specs.Tops.{with_requests}
+use Rattle.bp_live.specs.inner.Gathering.{with_requests}
 use Rattle.bp_live.specs.Candidates.{tops_in}
 use Rattle.bp_live.proofs.gathering.request_all.Given as goal
 

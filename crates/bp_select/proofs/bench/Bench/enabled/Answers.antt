@@ -1,48 +1,26 @@
-use Rattle.std.proofs.Common.{◌≡◌, ◌∙◌, ℕ, List, map, ap, sym, subst}
+use Rattle.std.proofs.Common.{◌≡◌, ◌∙◌, List, map, ap, sym, subst}
 use Rattle.js_value.specs.Value.{PlainSet}
 use Rattle.js_frames.specs.Places.{plain_ground}
 use Rattle.bp_meaning.specs.Membership.{member}
-use Rattle.bp_known.specs.Known.{sets_in}
 use Rattle.bp_run.specs.Selecting.{Live, selectable}
-use Rattle.bp_select.specs.Answers.{AnswersAs, enabled_of}
 use Rattle.bp_live.specs.Lives.{live_of}
+use Rattle.bp_select.specs.Answers.{AnswersAs, enabled_of}
 use Rattle.bp_select.specs.Benches.{Fits, PlainBench}
-use Rattle.bp_select.specs.Tallies.{Tallied}
-use Rattle.bp_select.specs.inner.Counted.{plain_tally}
+use Rattle.bp_select.proofs.Readiness.{are_kept, fits_of, kept_of}
 use Rattle.bp_select.proofs.bench.Bench.enabled.Goals as goal
 
-pub settle-requires-clause-known : goal.settle-requires-clause-known
-settle-requires-clause-known c =
-    let fits = subst (λ (b : PlainBench). Fits b (plain_ground c.args.ground.now) c.args.budget) (sym c.self.view_is) c.requires.fits in
-    fits.known
+pub enabled-requires-clause-kept : goal.enabled-requires-clause-kept
+enabled-requires-clause-kept c =
+    kept_of _ c.self.inside.kept c.self.inside.live.live (c.as_slice.ensures.live ∙ c.tidy.ensures.same) c.as_slice.ensures.order c.self.invariant
+    (subst (λ (b : PlainBench). Fits b (plain_ground c.args.ground.now) c.args.budget) (sym c.self.view_is) c.requires.fits)
 
-pub returns-in_err-settle-clause-fits : goal.returns-in_err-settle-clause-fits
-returns-in_err-settle-clause-fits c =
-    let base = plain_ground c.args.ground.now in
-    let fits = subst (λ (b : PlainBench). Fits b base c.args.budget) (sym c.self.view_is) c.requires.fits in
-    record {
-      known = c.settle.ensures.known;
-      tallied =
-          c.settle.ensures.tallied c.tidy.new.self.live
-          (subst (λ (ts : List (Live PlainSet)). Tallied base c.args.budget (sets_in c.self.inside.blocks.sets) ts (plain_tally c.self.inside.tally)) (sym c.tidy.ensures.same) fits.tallied);
-    }
-
-pub enabled-requires-clause-settled : goal.enabled-requires-clause-settled
-enabled-requires-clause-settled c = record { order = c.as_slice-live.ensures.order; sets = c.in_ok-settle.ensures.settled; known = c.settle.ensures.known }
+pub invariant_of-self : goal.invariant_of-self
+invariant_of-self c = are_kept _ c.enabled.new.self c.tidy.new.self.live c.as_slice.ensures.live c.enabled.ensures.kept
 
 pub returns-clause-enabled : goal.returns-clause-enabled
 returns-clause-enabled c =
-    let here : map live_of c.as_slice-live.result.now ≡ c.args.self.now.live = c.as_slice-live.ensures.live ∙ c.tidy.ensures.same ∙ ap (λ (b : PlainBench). b.live) c.self.view_is in
+    let here : map live_of c.as_slice.result.now ≡ c.args.self.now.live = c.as_slice.ensures.live ∙ c.tidy.ensures.same ∙ ap (λ (b : PlainBench). b.live) c.self.view_is in
     subst (λ (ts : List (Live PlainSet)). AnswersAs enabled_of (selectable (member (plain_ground c.args.ground.now) c.args.budget) ts c.args.queue.now) c.enabled.result) here c.enabled.ensures.enabled
 
 pub returns-clause-fits : goal.returns-clause-fits
-returns-clause-fits c =
-    let base = plain_ground c.args.ground.now in
-    let fits = subst (λ (b : PlainBench). Fits b base c.args.budget) (sym c.self.view_is) c.requires.fits in
-    record {
-      known = c.enabled.ensures.settled.known;
-      tallied =
-          subst (λ (es : List (ℕ × PlainSet)). Tallied base c.args.budget (sets_in es) c.tidy.new.self.live (plain_tally c.settle.new.tally)) (sym c.enabled.ensures.sets)
-          (c.settle.ensures.tallied c.tidy.new.self.live
-          (subst (λ (ts : List (Live PlainSet)). Tallied base c.args.budget (sets_in c.self.inside.blocks.sets) ts (plain_tally c.self.inside.tally)) (sym c.tidy.ensures.same) fits.tallied));
-    }
+returns-clause-fits c = fits_of _ c.enabled.new.self c.tidy.new.self.live c.as_slice.ensures.live c.enabled.ensures.kept

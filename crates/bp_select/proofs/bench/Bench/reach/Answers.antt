@@ -11,5 +11,5 @@ use Rattle.bp_select.proofs.bench.Bench.reach.Goals as goal
 
 pub returns-clause-reached : goal.returns-clause-reached
 returns-clause-reached c =
-    let here : map live_of c.as_slice-live.result.now ≡ c.args.self.now.live = c.as_slice-live.ensures.live ∙ c.tidy.ensures.same ∙ ap (λ (b : PlainBench). b.live) c.self.view_is in
+    let here : map live_of c.as_slice.result.now ≡ c.args.self.now.live = c.as_slice.ensures.live ∙ c.tidy.ensures.same ∙ ap (λ (b : PlainBench). b.live) c.self.view_is in
     subst (λ (ts : List (Live PlainSet)). AnswersReach (reach (member (plain_ground c.args.ground.now) c.args.budget) c.args.event.now ts) c.reach.result) here c.reach.ensures.reached

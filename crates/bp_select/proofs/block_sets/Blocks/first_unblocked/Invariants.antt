@@ -1,17 +1,16 @@
 use Rattle.std.proofs.Common.{◌≡◌, map, drop}
-use Rattle.js_frames.specs.Places.{plain_ground}
-use Rattle.bp_meaning.specs.Membership.{member}
 use Rattle.bp_run.specs.Selecting.{first_unblocked}
-use Rattle.bp_known.specs.Known.{AreKnown, sets_in}
 use Rattle.bp_live.specs.Lives.{lent}
+use Rattle.bp_select.specs.inner.Question.{has_of}
+use Rattle.bp_select.specs.inner.Settled.{AreSettled}
 use Rattle.bp_select.proofs.block_sets.Blocks.first_unblocked.Given as goal
 
 abbrev pub invariant-loop-place : goal.invariant-loop-place
 invariant-loop-place l =
-    let has = member (plain_ground l.ground) l.budget in
+    let has = has_of l.question in
     let ts = map lent l.blocking in
     record {
       asked : first_unblocked has ts 0 l.queue ≡ first_unblocked has ts l.place (drop l.place l.queue);
-      known : AreKnown (plain_ground l.ground) l.budget (sets_in l.fn.self.sets) l.self.told;
+      settled : AreSettled l.question (map lent l.blocking) l.self;
       sets : l.self.sets ≡ l.fn.self.sets;
     }

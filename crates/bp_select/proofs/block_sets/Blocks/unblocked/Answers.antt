@@ -1,44 +1,33 @@
-use Rattle.std.proofs.Common.{◌∙◌, ℕ, List, map, not, subst, sym}
+use Rattle.std.proofs.Common.{◌∙◌, map, not}
 use Rattle.std.proofs.lemmas.Result.{err_from_is_err_and}
-use Rattle.js_value.specs.Value.{PlainSet}
-use Rattle.js_frames.specs.Places.{plain_ground}
-use Rattle.bp_meaning.specs.Membership.{member}
-use Rattle.bp_select.specs.Blocks.{AreOf}
-use Rattle.bp_known.specs.Known.{AreKnown, sets_in}
 use Rattle.bp_live.specs.Lives.{lent}
 use Rattle.bp_live.specs.Candidates.{event_of}
 use Rattle.bp_live.specs.declared.candidate.Candidate.{Candidate}
 use Rattle.bp_select.proofs.Questions.{unblocked_step, unblocked_last, unblocked_fault}
 use Rattle.bp_live.proofs.TopLemmas.{tops_step}
+use Rattle.bp_select.specs.inner.Question.{has_of}
 use Rattle.bp_select.proofs.block_sets.Blocks.unblocked.Goals as goal
-
-pub is_blocked-requires-clause-sets : goal.is_blocked-requires-clause-sets
-is_blocked-requires-clause-sets c = subst (λ (es : List (ℕ × PlainSet)). AreOf (map lent c.args.blocking.now) (sets_in es)) (sym c.loop-candidate.invariant.sets) c.requires.sets
-
-pub is_blocked-requires-clause-known : goal.is_blocked-requires-clause-known
-is_blocked-requires-clause-known c =
-    subst (λ (es : List (ℕ × PlainSet)). AreKnown (plain_ground c.args.ground.now) c.args.budget (sets_in es) c.loop-candidate.self.told) (sym c.loop-candidate.invariant.sets) c.loop-candidate.invariant.known
 
 pub loop-candidate-preserved : goal.loop-candidate-preserved
 loop-candidate-preserved c = record {
   events =
-      unblocked_step event_of (member (plain_ground c.args.ground.now) c.args.budget) (map lent c.args.blocking.now) c.args.candidates.now c.loop-candidate.candidate-index c.candidate-item.result c.loop-candidate.free.items c.keep_if.new.kept.items
+      unblocked_step event_of (has_of c.args.question.now) (map lent c.args.blocking.now) c.args.candidates.now c.loop-candidate.candidate-index c.candidate-item.result c.loop-candidate.free.items c.keep_if.new.kept.items
       c.in_ok-blocked.blocked c.loop-candidate-test.true c.candidate-item.is c.in_ok-blocked.ensures.blocked c.in_ok-keep_if.ensures.kept c.loop-candidate.invariant.events;
   tops = λ ts h.
       tops_step event_of (λ (x : Candidate). x.top) ts c.args.candidates.now c.loop-candidate.candidate-index c.candidate-item.result c.loop-candidate.free.items c.keep_if.new.kept.items
       (not c.in_ok-blocked.blocked) c.loop-candidate-test.true c.candidate-item.is c.in_ok-keep_if.ensures.kept h (c.loop-candidate.invariant.tops ts h);
-  known = subst (λ (es : List (ℕ × PlainSet)). AreKnown (plain_ground c.args.ground.now) c.args.budget (sets_in es) c.is_blocked.new.self.told) c.loop-candidate.invariant.sets c.is_blocked.ensures.known;
+  settled = c.is_blocked.ensures.settled;
   sets = c.is_blocked.ensures.sets ∙ c.loop-candidate.invariant.sets;
 }
 
 pub returns-clause-events : goal.returns-clause-events
 returns-clause-events c =
-    unblocked_last event_of (member (plain_ground c.args.ground.now) c.args.budget) (map lent c.args.blocking.now) c.args.candidates.now c.loop-candidate.candidate-index c.loop-candidate.free.items c.loop-candidate-test.false
+    unblocked_last event_of (has_of c.args.question.now) (map lent c.args.blocking.now) c.args.candidates.now c.loop-candidate.candidate-index c.loop-candidate.free.items c.loop-candidate-test.false
     c.loop-candidate.invariant.events
 
 pub returns-in_err-blocked-clause-events : goal.returns-in_err-blocked-clause-events
 returns-in_err-blocked-clause-events c =
     let p = err_from_is_err_and c.from_residual.result c.from_residual.ensures.1 in
     rw (p.1, p.2)
-    (unblocked_fault event_of (member (plain_ground c.args.ground.now) c.args.budget) (map lent c.args.blocking.now) c.args.candidates.now c.loop-candidate.candidate-index c.candidate-item.result c.loop-candidate.free.items _
+    (unblocked_fault event_of (has_of c.args.question.now) (map lent c.args.blocking.now) c.args.candidates.now c.loop-candidate.candidate-index c.candidate-item.result c.loop-candidate.free.items _
     c.loop-candidate-test.true c.candidate-item.is c.loop-candidate.invariant.events c.in_err-blocked.ensures.blocked)
