@@ -11,16 +11,16 @@ use Rattle.bp_select.specs.declared.kept.Kept.{Kept}
 use Rattle.bp_select.specs.declared.question.Question.{Question}
 use Rattle.bp_select.specs.declared.tally.Tally as tally
 use Rattle.bp_select.specs.Blocks.{AreOf, block_at}
-use Rattle.bp_select.specs.Tallies.{Tallied}
+use Rattle.bp_select.specs.Tallies.{AreTallied, Tallied}
 use Rattle.bp_select.specs.inner.BlockSets.{AreOfUnchanged, PlainBlocks}
 use Rattle.bp_select.specs.inner.Counted.{plain_tally}
 use Rattle.bp_select.specs.inner.Heeding.{WhereWhole, AreKept}
-use Rattle.bp_select.specs.inner.Kept.{IsFresh, IsKept, IsReady, plain_kept}
+use Rattle.bp_select.specs.inner.Kept.{AreCounted, IsFresh, IsKept, IsReady, plain_kept}
 use Rattle.bp_select.specs.inner.Parts.{IsPart, blocks_nothing}
 use Rattle.bp_select.specs.inner.Question.{base_of, lives_of}
 use Rattle.bp_select.specs.inner.Settled.{AreSettled, IsTold}
 use Rattle.bp_select.proofs.PartLemmas.{of_part, order_part}
-use Rattle.bp_select.proofs.TallyLemmas.{tallied_same}
+use Rattle.bp_select.proofs.TallyLemmas.{tallied_rest, tallied_same}
 use Rattle.bp_live.specs.Places.{AreInOrder}
 use Rattle.bp_select.specs.Benches.{Fits}
 
@@ -71,15 +71,37 @@ module _ (q : Question) (k : Kept) where
       by n (inl c) = (let low = c.1.0 in absurd (omega (arith, low)))
       by n (inr e) = e
 
+  -- a question begins
+  module _ (b : PlainBlocks) (same : b.sets ≡ k.blocks.sets) (still : (base : Ground) (n : ℕ) (sets : Sets) → AreKnown base n sets k.blocks.told → AreKnown base n sets b.told) where
+    pub kept_begun : IsKept q k → IsKept q (record k { blocks = b })
+    kept_begun h = kept_blocks b same (told_begun q k.blocks b same still h.told) h
+
+    pub settled_begun : IsKept q k → IsFresh k → AreSettled q (lives_of q) b
+    settled_begun h fresh = settled_after q k.blocks b same (lives_of q) (told_begun q k.blocks b same still h.told) (settled_of h fresh)
+
+  -- ---- where events can be asked about
+
+  pub ready_tally : (y : tally.Tally) → Tallied (base_of q) q.budget (sets_in k.blocks.sets) (lives_of q) (plain_tally y) → IsReady q k → IsReady q (record k { tally = y })
+  ready_tally y tallied h = record { kept = kept_tally y tallied h.kept; fresh = h.fresh; noted = h.noted }
+
   -- one that may have changed is counted anew
   pub ready_counted : (n : ℕ) (counts : List ℕ) → is_in n k.tally.changed ≡ true → ((m : ℕ) → nat_eq m n ≡ false → count_at counts m ≡ count_at k.tally.counts m) → IsReady q k → IsReady q (record k { tally = record k.tally { counts = counts } })
-  ready_counted n counts at others h = record {
-    kept =
-        kept_tally (record k.tally { counts = counts })
-        (λ w. tallied_same (base_of q) q.budget (sets_in k.blocks.sets) (lives_of q) n k.tally.changed k.tally.counts counts at others (h.kept.tallied w)) h.kept;
-    fresh = h.fresh;
-    noted = h.noted;
-  }
+  ready_counted n counts at others h =
+      ready_tally (record k.tally { counts = counts })
+      (λ w. tallied_same (base_of q) q.budget (sets_in k.blocks.sets) (lives_of q) n k.tally.changed k.tally.counts counts at others (h.kept.tallied w)) h
+
+  -- nothing counts as counted
+  pub ready_forgotten : (y : tally.Tally) → y.whole ≡ false → IsReady q k → IsReady q (record k { tally = y })
+  ready_forgotten y none = ready_tally y (tallied_rest (base_of q) q.budget (sets_in k.blocks.sets) (lives_of q) (plain_tally y) none)
+
+  -- all are counted
+  pub ready_cleared : (changed : List ℕ) → changed ≡ [] → AreCounted q k [] → IsReady q k → IsReady q (record k { tally = record k.tally { changed = changed } })
+  ready_cleared changed none counted =
+      ready_tally (record k.tally { changed = changed })
+      (λ w. subst (λ (ns : List ℕ). AreTallied (base_of q) q.budget (sets_in k.blocks.sets) (lives_of q) ns k.tally.counts) (sym none) counted)
+
+  pub ready_begun : (b : PlainBlocks) → b.sets ≡ k.blocks.sets → ((base : Ground) (n : ℕ) (sets : Sets) → AreKnown base n sets k.blocks.told → AreKnown base n sets b.told) → IsReady q k → IsReady q (record k { blocks = b })
+  ready_begun b same still h = record { kept = kept_begun b same still h.kept; fresh = h.fresh; noted = h.noted }
 
 -- ---- a bench
 
