@@ -43,6 +43,9 @@ settled_part q ss ts b p h = record { order = order_part blocks_nothing ss ts p 
 
 -- ---- what is kept
 
+none_in : (n : ℕ) → Contains [] n → ⊥
+none_in n (i, low, e) = omega (arith, low)
+
 module _ (q : Question) (k : Kept) where
   pub kept_blocks : (b : PlainBlocks) → b.sets ≡ k.blocks.sets → IsTold q b → IsKept q k → IsKept q (record k { blocks = b })
   kept_blocks b same told h = record {
@@ -68,7 +71,7 @@ module _ (q : Question) (k : Kept) where
       unchanged = subst (λ (ns : List ℕ). AreOfUnchanged (lives_of q) (sets_in k.blocks.sets) ns) fresh h.kept.blocking
 
       by : (n : ℕ) → Contains [] n ⊎ (sets_in k.blocks.sets n ≡ block_at (lives_of q) n) → sets_in k.blocks.sets n ≡ block_at (lives_of q) n
-      by n (inl c) = (let low = c.1.0 in absurd (omega (arith, low)))
+      by n (inl c) = absurd (none_in n c)
       by n (inr e) = e
 
   -- a question begins

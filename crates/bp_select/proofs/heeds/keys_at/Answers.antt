@@ -1,4 +1,4 @@
-use Rattle.std.proofs.Common.{◌∙◌, Option, ap, option_map, sym}
+use Rattle.std.proofs.Common.{◌∙◌, Option, ap, map, option_map, sym}
 use Rattle.std.specs.Borrow.{Bor}
 use Rattle.std.proofs.lemmas.Result.{IfOk-weaker}
 use Rattle.bp_roll.specs.Rolls.{is_in}

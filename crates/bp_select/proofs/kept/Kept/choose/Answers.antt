@@ -13,7 +13,7 @@ returns-in-Some-clause-chosen c =
     let q = c.args.question.now in
     let d = c.args.draw.now.drawn in
     picked_as (choice (has_of q) (draw_word c.args.draw.now.seed) c.args.strategy (lives_of q) c.args.queue.now d) c.args.queue.now d c.into_choice.new.draw.drawn _ _ c.into_choice.result
-    (subst (λ (o : Option Picked). IfSome o (IsPick q c.args.strategy c.args.draw.now)) c.in-Some.is c.in_ok-quick.ensures.picked c.args.queue.now) c.into_choice.ensures.drawn c.into_choice.ensures.event
+    (subst (λ (o : Option Picked). IfSome o (IsPick q c.args.strategy c.args.draw.now)) c.in-Some.is c.in_ok-picked.ensures.picked c.args.queue.now) c.into_choice.ensures.drawn c.into_choice.ensures.event
 
 pub returns-in-Some-clause-draws : goal.returns-in-Some-clause-draws
 returns-in-Some-clause-draws c = record {

@@ -13,11 +13,11 @@ use Rattle.bp_select.specs.inner.Question.{base_of, lives_of}
 use Rattle.bp_select.proofs.TallyLemmas.{absent_counted, found_counted}
 use Rattle.bp_select.proofs.kept.Kept.count_of.Goals as goal
 
-pub returns-in-None-clause-counted : goal.returns-in-None-clause-counted
-returns-in-None-clause-counted c =
+pub returns-in_default-clause-counted : goal.returns-in_default-clause-counted
+returns-in_default-clause-counted c =
     let q = c.args.question.now in
     absent_counted (base_of q) q.budget (sets_in c.args.self.now.blocks.sets) (lives_of q) c.args.number
-    (sym c.stated_of.ensures ∙ ap (λ (o : Option (Bor Stated)). option_map lent o) c.in-None.is)
+    (sym c.stated_of.ensures ∙ ap (λ (o : Option (Bor Stated)). option_map lent o) c.in_default.is)
 
 pub returns-clause-counted : goal.returns-clause-counted
 returns-clause-counted c =
