@@ -22,11 +22,11 @@ none_some x h = cc
 
 pub each_absent : (P : Live PlainSet → Type 0) (n : ℕ) (ts : List (Live PlainSet)) → numbered n ts ≡ None → Each (λ t. t.number ≡ n → P t) ts
 each_absent P n [] h = tt
-each_absent P n (t ∷ ts) h = by (nat_eq t.number n) refl
+each_absent P n (t ∷ ts) h = by (nat_eq t.number n) refl (λ k. each_absent P n ts k)
   where
-    by : (b : Bool) → nat_eq t.number n ≡ b → Each (λ t. t.number ≡ n → P t) (t ∷ ts)
-    by true e = absurd (some_none t (sym (numbered_at n t ts true e) ∙ h))
-    by false e = ((λ q. absurd (apart t.number n e q)), each_absent P n ts (sym (numbered_at n t ts false e) ∙ h))
+    by : (b : Bool) → nat_eq t.number n ≡ b → (numbered n ts ≡ None → Each (λ t. t.number ≡ n → P t) ts) → Each (λ t. t.number ≡ n → P t) (t ∷ ts)
+    by true e ih = absurd (some_none t (sym (numbered_at n t ts true e) ∙ h))
+    by false e ih = ((λ q. absurd (apart t.number n e q)), ih (sym (numbered_at n t ts false e) ∙ h))
 
 above_apart : (P : Live PlainSet → Type 0) (n : ℕ) (ts : List (Live PlainSet)) → AreAbove n ts → Each (λ t. t.number ≡ n → P t) ts
 above_apart P n [] h = tt
@@ -34,37 +34,37 @@ above_apart P n (t ∷ ts) h = let low = h.0 in ((λ e. absurd (omega (arith, lo
 
 pub each_found : (P : Live PlainSet → Type 0) (n : ℕ) (x : Live PlainSet) (ts : List (Live PlainSet)) → AreInOrder ts → numbered n ts ≡ Some x → P x → Each (λ t. t.number ≡ n → P t) ts
 each_found P n x [] o h p = absurd (none_some x h)
-each_found P n x (t ∷ ts) o h p = by (nat_eq t.number n) refl
+each_found P n x (t ∷ ts) o h p = by (nat_eq t.number n) refl (λ k. each_found P n x ts o.1 k p)
   where
-    by : (b : Bool) → nat_eq t.number n ≡ b → Each (λ t. t.number ≡ n → P t) (t ∷ ts)
-    by true e = (
+    by : (b : Bool) → nat_eq t.number n ≡ b → (numbered n ts ≡ Some x → Each (λ t. t.number ≡ n → P t) ts) → Each (λ t. t.number ≡ n → P t) (t ∷ ts)
+    by true e ih = (
       (λ q. subst (λ (r : Option (Live PlainSet)). IfSome r P) (sym h ∙ numbered_at n t ts true e) p),
       above_apart P n ts (subst (λ (m : ℕ). AreAbove m ts) (eqb-true t.number n e) o.0),
     )
-    by false e = ((λ q. absurd (apart t.number n e q)), each_found P n x ts o.1 (sym (numbered_at n t ts false e) ∙ h) p)
+    by false e ih = ((λ q. absurd (apart t.number n e q)), ih (sym (numbered_at n t ts false e) ∙ h))
 
 pub there : (n : ℕ) (x : Live PlainSet) (ts : List (Live PlainSet)) → numbered n ts ≡ Some x → is_there n ts ≡ true
 there n x [] h = absurd (none_some x h)
-there n x (t ∷ ts) h = by (nat_eq t.number n) refl
+there n x (t ∷ ts) h = by (nat_eq t.number n) refl (λ k. there n x ts k)
   where
-    by : (b : Bool) → nat_eq t.number n ≡ b → is_there n (t ∷ ts) ≡ true
-    by true e = or_left (nat_eq t.number n) (is_there n ts) e
-    by false e = or_right (nat_eq t.number n) (is_there n ts) (there n x ts (sym (numbered_at n t ts false e) ∙ h))
+    by : (b : Bool) → nat_eq t.number n ≡ b → (numbered n ts ≡ Some x → is_there n ts ≡ true) → is_there n (t ∷ ts) ≡ true
+    by true e ih = or_left (nat_eq t.number n) (is_there n ts) e
+    by false e ih = or_right (nat_eq t.number n) (is_there n ts) (ih (sym (numbered_at n t ts false e) ∙ h))
 
 -- ---- its block set
 
 pub absent_block : (n : ℕ) (ts : List (Live PlainSet)) → numbered n ts ≡ None → block_at ts n ≡ None
 absent_block n [] h = refl
-absent_block n (t ∷ ts) h = by (nat_eq t.number n) refl
+absent_block n (t ∷ ts) h = by (nat_eq t.number n) refl (λ k. absent_block n ts k)
   where
-    by : (b : Bool) → nat_eq t.number n ≡ b → block_at (t ∷ ts) n ≡ None
-    by true e = absurd (some_none t (sym (numbered_at n t ts true e) ∙ h))
-    by false e = block_apart t ts n (apart t.number n e) ∙ absent_block n ts (sym (numbered_at n t ts false e) ∙ h)
+    by : (b : Bool) → nat_eq t.number n ≡ b → (numbered n ts ≡ None → block_at ts n ≡ None) → block_at (t ∷ ts) n ≡ None
+    by true e ih = absurd (some_none t (sym (numbered_at n t ts true e) ∙ h))
+    by false e ih = block_apart t ts n (apart t.number n e) ∙ ih (sym (numbered_at n t ts false e) ∙ h)
 
 pub found_block : (n : ℕ) (x : Live PlainSet) (ts : List (Live PlainSet)) → numbered n ts ≡ Some x → block_at ts n ≡ own_set x
 found_block n x [] h = absurd (none_some x h)
-found_block n x (t ∷ ts) h = by (nat_eq t.number n) refl
+found_block n x (t ∷ ts) h = by (nat_eq t.number n) refl (λ k. found_block n x ts k)
   where
-    by : (b : Bool) → nat_eq t.number n ≡ b → block_at (t ∷ ts) n ≡ own_set x
-    by true e = block_here t ts n (eqb-true t.number n e) ∙ subst (λ (r : Option (Live PlainSet)). IfSome r (λ u. own_set t ≡ own_set u)) (sym (numbered_at n t ts true e) ∙ h) refl
-    by false e = block_apart t ts n (apart t.number n e) ∙ found_block n x ts (sym (numbered_at n t ts false e) ∙ h)
+    by : (b : Bool) → nat_eq t.number n ≡ b → (numbered n ts ≡ Some x → block_at ts n ≡ own_set x) → block_at (t ∷ ts) n ≡ own_set x
+    by true e ih = block_here t ts n (eqb-true t.number n e) ∙ subst (λ (r : Option (Live PlainSet)). IfSome r (λ u. own_set t ≡ own_set u)) (sym (numbered_at n t ts true e) ∙ h) refl
+    by false e ih = block_apart t ts n (apart t.number n e) ∙ ih (sym (numbered_at n t ts false e) ∙ h)

@@ -7,8 +7,8 @@ use Rattle.bp_select.specs.inner.Question.{lives_of}
 use Rattle.bp_select.proofs.Readiness.{kept_blocks, settled_of, settled_part}
 use Rattle.bp_select.proofs.kept.Kept.learn.Goals as goal
 
-pub unblocked-asked-requires : goal.unblocked-asked-requires
-unblocked-asked-requires c =
+pub unblocked-asked-requires-clause-settled : goal.unblocked-asked-requires-clause-settled
+unblocked-asked-requires-clause-settled c =
     let q = c.args.question.now in
     let ready = c.requires.ready in
     settled_part q (map lent c.as_slice-blocking.result.now) (lives_of q) c.args.self.now.blocks
