@@ -1,5 +1,5 @@
 -- Where the numbers of statements that are in order stand.
-use Rattle.std.proofs.Common.{◌≡◌, ℕ, zero, suc, ◌<◌, arith, Bool, true, false, nat_eq, nat_lt, List, [], ◌∷◌, length, map, find, get_or, refl, ap, sym, ◌∙◌, slice_get, cond, Option, Some, None, if◌then◌else◌}
+use Rattle.std.proofs.Common.{◌≡◌, ℕ, zero, suc, ◌<◌, arith, Bool, true, false, nat_eq, nat_lt, List, [], ◌∷◌, length, map, get_or, refl, ap, sym, ◌∙◌, slice_get, cond, Some, None, if◌then◌else◌}
 use Rattle.std.proofs.lemmas.Bool.{eqb-true, le-ltb, lt-ltb, ltb-true, ne_eqb}
 use Rattle.js_value.specs.Value.{PlainSet}
 use Rattle.bp_run.specs.Selecting.{Live}

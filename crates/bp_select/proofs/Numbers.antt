@@ -1,5 +1,5 @@
 -- The one of a number among b-threads that are in order.
-use Rattle.std.proofs.Common.{◌≡◌, ℕ, ◌<◌, arith, Bool, true, false, nat_eq, List, [], ◌∷◌, refl, sym, ◌∙◌, subst, Option, Some, None}
+use Rattle.std.proofs.Common.{◌≡◌, ℕ, arith, Bool, true, false, nat_eq, List, [], ◌∷◌, refl, sym, ◌∙◌, subst, Option, Some, None}
 use Rattle.std.specs.Prelude.{IfSome}
 use Rattle.std.proofs.lemmas.Bool.{eqb-true, eq-eqb, or_left, or_right}
 use Rattle.js_value.specs.Value.{PlainSet}

@@ -4,7 +4,6 @@ use Rattle.std.proofs.lemmas.Result.{IfOk-weaker}
 use Rattle.bp_roll.specs.Rolls.{is_in}
 use Rattle.bp_live.specs.declared.stated.Stated.{Stated}
 use Rattle.bp_live.specs.Lives.{lent, live_of}
-use Rattle.bp_select.specs.Tallies.{Each}
 use Rattle.bp_select.specs.inner.Heeding.{HeedsAt}
 use Rattle.bp_select.proofs.Numbers.{each_absent, each_found}
 use Rattle.bp_select.proofs.heeds.keys_at.Goals as goal

@@ -1,7 +1,6 @@
-use Rattle.std.proofs.Common.{◌≡◌, ◌∙◌, ℕ, List, Option, ap, nat_eq, false, subst, sym, true}
+use Rattle.std.proofs.Common.{◌≡◌, ℕ, Option, subst, sym, true}
 use Rattle.std.specs.Prelude.{IfSome}
 use Rattle.bp_known.specs.Known.{sets_in}
-use Rattle.bp_roll.specs.Counting.{count_at}
 use Rattle.bp_roll.specs.Rolls.{is_in}
 use Rattle.bp_select.specs.declared.tally.Tally as tally
 use Rattle.bp_select.specs.inner.Kept.{HasCount}

@@ -1,11 +1,9 @@
-use Rattle.std.proofs.Common.{◌≡◌, ◌∙◌, ◌<◌, ℕ, List, ap, arith, drop, length, refl, slice_index, subst, sym}
+use Rattle.std.proofs.Common.{◌≡◌, ◌∙◌, ◌<◌, ℕ, List, ap, drop, length, slice_index, subst, sym}
 use Rattle.js_value.specs.Value.{PlainSet}
 use Rattle.bp_known.specs.Known.{sets_in}
-use Rattle.bp_roll.specs.Counting.{count_at}
 use Rattle.bp_select.specs.Tallies.{AreTallied}
 use Rattle.bp_select.specs.inner.Question.{base_of, lives_of}
-use Rattle.bp_select.proofs.HeedLemmas.{in_at}
-use Rattle.bp_select.proofs.TallyLemmas.{tallied_all, tallied_next}
+use Rattle.bp_select.proofs.TallyLemmas.{tallied_next}
 use Rattle.bp_select.proofs.kept.Kept.count_changed.Goals as goal
 
 pub loop-at-preserved : goal.loop-at-preserved

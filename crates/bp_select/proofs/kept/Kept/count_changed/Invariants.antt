@@ -1,5 +1,4 @@
-use Rattle.std.proofs.Common.{◌≡◌, drop}
-use Rattle.bp_known.specs.Known.{sets_in}
+use Rattle.std.proofs.Common.{drop}
 use Rattle.bp_select.specs.inner.Kept.{AreCounted, IsReady, Recounts}
 use Rattle.bp_select.proofs.kept.Kept.count_changed.Given as goal
 

@@ -16,7 +16,8 @@ use Rattle.bp_select.proofs.kept.Kept.count_of.Goals as goal
 pub returns-in_default-clause-counted : goal.returns-in_default-clause-counted
 returns-in_default-clause-counted c =
     let q = c.args.question.now in
-    absent_counted (base_of q) q.budget (sets_in c.args.self.now.blocks.sets) (lives_of q) c.args.number
+    let k = c.args.self.now in
+    absent_counted (base_of q) q.budget (sets_in k.blocks.sets) (lives_of q) c.args.number
     (sym c.stated_of.ensures ∙ ap (λ (o : Option (Bor Stated)). option_map lent o) c.in_default.is)
 
 pub returns-clause-counted : goal.returns-clause-counted

@@ -7,13 +7,16 @@ use Rattle.bp_select.specs.inner.Question.{lives_of}
 use Rattle.bp_select.proofs.Readiness.{kept_blocks, settled_of, settled_part}
 use Rattle.bp_select.proofs.kept.Kept.learn.Goals as goal
 
-pub unblocked-asked-requires-clause-settled : goal.unblocked-asked-requires-clause-settled
-unblocked-asked-requires-clause-settled c =
+pub unblocked-asked-requires : goal.unblocked-asked-requires
+unblocked-asked-requires c =
     let q = c.args.question.now in
+    let k = c.args.self.now in
     let ready = c.requires.ready in
-    settled_part q (map lent c.as_slice-blocking.result.now) (lives_of q) c.args.self.now.blocks
-    (subst (λ (xs : List (Bor Stated)). IsPart blocks_nothing (map lent xs) (lives_of q)) (sym c.as_slice-blocking.ensures.value) c.in_ok-blocking.ensures)
-    (settled_of q c.args.self.now ready.kept ready.fresh)
+    record {
+      settled =
+          settled_part q (map lent c.as_slice-blocking.result.now) (lives_of q) k.blocks
+          (subst (λ (xs : List (Bor Stated)). IsPart blocks_nothing (map lent xs) (lives_of q)) (sym c.as_slice-blocking.ensures.value) c.in_ok-blocking.ensures) (settled_of q k ready.kept ready.fresh);
+    }
 
 pub returns-clause-ready : goal.returns-clause-ready
 returns-clause-ready c =

@@ -1,8 +1,7 @@
-use Rattle.std.proofs.Common.{Option, subst, sym}
+use Rattle.std.proofs.Common.{subst, sym}
 use Rattle.std.specs.Prelude.{IfOk, IfSome}
 use Rattle.bp_log.specs.declared.options.Strategy.{Strategy}
 use Rattle.bp_select.specs.inner.Kept.{IsPick}
-use Rattle.bp_select.proofs.Readiness.{kept_heeds, kept_tally}
 use Rattle.bp_select.proofs.kept.Kept.quick.Goals as goal
 
 pub returns-in-Simple-clause-picked : goal.returns-in-Simple-clause-picked
