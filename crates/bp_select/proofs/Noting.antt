@@ -1,10 +1,10 @@
 -- Block sets that become those of the b-threads.
-use Rattle.std.proofs.Common.{◌≡◌, ◌≢◌, ◌⊎◌, inl, inr, ℕ, zero, suc, ◌+◌, ◌<◌, arith, Bool, true, false, nat_eq, nat_lt, List, [], ◌∷◌, ◌++◌, length, drop, get_or, refl, ap, sym, ◌∙◌, subst, Option, Some, None, Result, Ok, Err, if◌then◌else◌, Contains}
+use Rattle.std.proofs.Common.{◌≡◌, ◌≢◌, ◌⊎◌, inl, inr, ℕ, zero, suc, ◌+◌, ◌<◌, arith, Bool, true, false, nat_eq, nat_lt, List, [], ◌∷◌, ◌++◌, length, take, drop, get_or, refl, ap, sym, ◌∙◌, subst, Option, Some, None, Result, Ok, Err, if◌then◌else◌, Contains}
 use Rattle.std.specs.List.{cons_option}
 use Rattle.std.specs.Result.{OnOk, OnErr}
 use Rattle.std.proofs.lemmas.Bool.{not-false, cases_eq, ltb-true, eqb-true, eq-eqb}
-use Rattle.std.proofs.lemmas.List.{drop_more}
-use Rattle.std.proofs.lemmas.List.Elements.{Contains-append_left, Contains-push}
+use Rattle.std.proofs.lemmas.List.{drop_more, take-append-drop}
+use Rattle.std.proofs.lemmas.List.Elements.{Contains-get_or, Contains-append_right, Contains-append_left, Contains-push}
 use Rattle.js_value.specs.Value.{PlainSet}
 use Rattle.bp_run.specs.Bodies.{Statement}
 use Rattle.bp_run.specs.Selecting.{Live}
@@ -116,6 +116,14 @@ module _ (ts : List (Live PlainSet)) (old new : Sets) (changed : List ℕ) (at n
       by n false e (inl c) =
           let first : drop at changed ≡ number ∷ drop (at + 1) changed = drop_more changed at number low ∙ ap (λ (m : ℕ). m ∷ drop (at + 1) changed) (sym is) in
           inl (rest_of number n (drop (at + 1) changed) (subst (λ (ns : List ℕ). Contains ns n) first c) (apart n e))
+      by n false e (inr w) = inr (others n e ∙ w)
+
+  pub settled_fault : AreSettledBefore ts old changed at → AreOfUnchanged ts new changed
+  settled_fault h = record { each = λ n. by n (nat_eq number n) refl (h.each n) }
+    where
+      by : (n : ℕ) (b : Bool) → nat_eq number n ≡ b → Contains (drop at changed) n ⊎ (old n ≡ block_at ts n) → Contains changed n ⊎ (new n ≡ block_at ts n)
+      by n true e w = inl (subst (Contains changed) (sym is ∙ eqb-true number n e) (Contains-get_or changed at number low))
+      by n false e (inl c) = inl (subst (λ (ns : List ℕ). Contains ns n) (take-append-drop at changed) (Contains-append_right (take at changed) (drop at changed) n c))
       by n false e (inr w) = inr (others n e ∙ w)
 
 -- a number that is among the changed may have another set

@@ -18,7 +18,7 @@ use Rattle.bp_run.specs.Selecting.{Asked, Has, Live, both, blocked, candidates, 
 use Rattle.bp_run.specs.Choosing.{Choice, choice}
 use Rattle.bp_log.specs.declared.options.Strategy.TheVariants.{Simple}
 use Rattle.bp_roll.specs.Rolls.{is_in}
-use Rattle.bp_known.specs.Known.{Sets}
+use Rattle.bp_known.specs.Known.{Sets, sets_in}
 use Rattle.bp_select.specs.declared.answers.Choice as answer
 use Rattle.bp_select.specs.declared.answers.Choice.TheVariants as answers
 use Rattle.bp_live.specs.declared.stated.Stated.{Stated}
@@ -34,7 +34,7 @@ use Rattle.bp_roll.specs.Keys.{same_sym}
 use Rattle.bp_live.specs.Lives.{live_of}
 use Rattle.bp_live.specs.Places.{AreAbove, AreInOrder}
 use Rattle.bp_select.specs.inner.Counted.{IsAlone, IsCounted, all_free, chosen_as, or_none}
-use Rattle.bp_select.proofs.HeedLemmas.{each_both, each_map, each_placed}
+use Rattle.bp_select.proofs.HeedLemmas.{each_both, each_map, each_placed, in_dropped}
 use Rattle.bp_select.proofs.Selects.{choice_of}
 use Rattle.bp_live.specs.Numbers.{numbered}
 use Rattle.bp_select.proofs.Numbers.{each_absent, each_found, there}
@@ -248,8 +248,16 @@ module _ (base : Ground) (budget : ℕ) (sets : Sets) (ts : List (Live PlainSet)
       tallied_step base budget sets ts n (drop i changed) (drop (i + 1) changed) old new
       (λ m e c. behind (nat_eq m n) (is_in m (drop (i + 1) changed)) e (sym (ap (λ (xs : List ℕ). is_in m xs) first_of) ∙ c)) others own h
 
+  pub tallied_fault : AreTallied base budget sets ts (drop i changed) old → AreTallied base budget sets ts changed new
+  tallied_fault h =
+      tallied_more base budget sets ts (drop i changed) changed new (λ m c. in_dropped m i changed c)
+      (tallied_same base budget sets ts n (drop i changed) old new (ap (λ (xs : List ℕ). is_in n xs) first_of ∙ or_left (nat_eq n n) (is_in n (drop (i + 1) changed)) (eq-eqb n n refl)) others h)
+
 pub tallied_all : (base : Ground) (budget : ℕ) (sets : Sets) (ts : List (Live PlainSet)) (changed counts : List ℕ) (i : ℕ) → length changed ≤ i → AreTallied base budget sets ts (drop i changed) counts → AreTallied base budget sets ts [] counts
 tallied_all base budget sets ts changed counts i low h = subst (λ (xs : List ℕ). AreTallied base budget sets ts xs counts) (drop_all i changed low) h
+
+pub tallied_still : (base : Ground) (budget : ℕ) (sets : Sets) (ts : List (Live PlainSet)) (changed counts : List ℕ) → AreTallied base budget sets ts [] counts → AreTallied base budget sets ts changed counts
+tallied_still base budget sets ts changed counts h = tallied_more base budget sets ts [] changed counts (λ m c. absurd (none c)) h
 
 -- ---- one is placed
 
@@ -704,6 +712,11 @@ pub tallied_rest : (base : Ground) (budget : ℕ) (sets : Sets) (ts : List (Live
 tallied_rest base budget sets ts y h w = absurd (none (sym h ∙ w))
 
 -- ---- whether or not it is known
+
+-- what is so of the same sets
+pub free_same : {E : Type 0} (base : Ground) (budget : ℕ) (r : Result (Option (Vec Candidate Global)) E) (t : Live PlainSet) (old new : List (ℕ × PlainSet)) → new ≡ old →
+    IfOk r (λ o. IfSome o (λ l. AreFreeOf base budget (sets_in new) t (events_in l.items))) → IfOk r (λ o. IfSome o (λ l. AreFreeOf base budget (sets_in old) t (events_in l.items)))
+free_same base budget r t old new q h = subst (λ (es : List (ℕ × PlainSet)). IfOk r (λ o. IfSome o (λ l. AreFreeOf base budget (sets_in es) t (events_in l.items)))) q h
 
 pub counted_when : {E : Type 0} (base : Ground) (budget : ℕ) (sets : Sets) (ts : List (Live PlainSet)) (n count : ℕ) (counts : List ℕ) (r : Result Bool E) → IsCounted base budget sets ts n count → IfOk r (λ b. b ≡ true → count_at counts n ≡ count) →
     IfOk r (λ b. b ≡ true → IsCounted base budget sets ts n (count_at counts n))
