@@ -1,4 +1,4 @@
--- Names and what is held under them. What a world holds, and which names it was asked for, is told or not:
+-- Names and what is held under them. What a world holds, and what was done with names, is told or not:
 -- `None` tells nothing.
 use Rattle.std.specs.Prelude.{◌≡◌, ℕ, List, [], ◌∷◌, ◌++◌, Option, Some, IfSome, IsSome, IsSomeAnd}
 
@@ -10,9 +10,9 @@ Holdings = List ℕ → Option (List ℕ)
 abbrev pub Opens : Option Holdings → List ℕ → Option (List ℕ) → Type 0
 Opens holds name left = IfSome holds (λ held. IsSome (held name) × (left ≡ held name))
 
--- the name was added to those that were asked for
-abbrev pub Asks : Option (List (List ℕ)) → List ℕ → Option (List (List ℕ)) → Type 0
-Asks before name after = IfSome before (λ names. after ≡ Some (names ++ name ∷ []))
+-- the name was added to a list of names, where that is told
+abbrev pub AddsName : Option (List (List ℕ)) → List ℕ → Option (List (List ℕ)) → Type 0
+AddsName before name after = IfSome before (λ names. after ≡ Some (names ++ name ∷ []))
 
 -- this is now under the name, and under each other name what was there
 abbrev pub Sets : Holdings → List ℕ → List ℕ → Holdings → Type 0

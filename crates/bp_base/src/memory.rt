@@ -2,8 +2,9 @@
 ghost use Rattle.std.specs.Prelude.{◌≡◌, ◌≤◌, ◌+◌, ◌<◌, [], length, take, drop, min, IfOk, OnOk, OnErr, is_err, if◌then◌else◌};
 ghost use Rattle.bp_base.specs.Counts.{Rose, raised};
 ghost use Rattle.bp_base.specs.Pieces.{Gives, Appends};
+ghost use Rattle.bp_base.specs.Outside.{ReadsInto, RefusesReading, Takes, RefusesWriting, Lasts};
 ghost use Rattle.bp_base.specs.inner.Calls.{is_to_fail, called, planned};
-ghost use Rattle.bp_base.specs.Memory.{supply, refuses, offered};
+ghost use Rattle.bp_base.specs.Memory.{supply, refuses, offered, told_supply, told_store};
 
 use crate::calls::Calls;
 use crate::{Failed, Memory, Sink, Source};
@@ -62,20 +63,15 @@ impl MemorySource {
 }
 
 impl Source for MemorySource {
-    ghost use Rattle.std.specs.Prelude.{Some};
+    ghost use Rattle.bp_base.specs.Memory.{told_supply};
 
-    ghost left = { λ s. Some s.left };
-
-    ghost faults = { λ s. s.faults };
+    ghost told = { told_supply };
 
     fn read(&mut self, into: &mut [u8]) -> Result<usize, Failed>
-        ensures within { IfOk result (λ n. n ≤ length into.old) }
-        ensures given { IfOk result
-            (λ n. Gives (Some self.old.left) (take n into.new) (Some self.new.left)) }
-        ensures end { 0 < length into.old → IfOk result (λ n. n ≡ 0 → self.old.left ≡ []) }
-        ensures failed { OnErr result (self.new.left ≡ self.old.left) }
-        ensures cause { OnErr result (Rose self.old.faults self.new.faults) }
-        ensures spares { OnOk result (self.new.faults ≡ self.old.faults) }
+        ensures reads { IfOk result (λ n.
+            ReadsInto (told_supply self.old) into.old n into.new (told_supply self.new)) }
+        ensures refuses { OnErr result
+            (RefusesReading (told_supply self.old) (told_supply self.new)) }
         ensures counts { self.old.faults ≤ self.new.faults }
 
         // It fails exactly where this call is to fail, and else moves all that the buffer takes.
@@ -174,23 +170,16 @@ impl MemorySink {
 }
 
 impl Sink for MemorySink {
-    ghost use Rattle.std.specs.Prelude.{Some, None};
+    ghost use Rattle.bp_base.specs.Memory.{told_store};
 
-    ghost written = { λ s. Some s.written };
-
-    ghost faults = { λ s. s.faults };
-
-    ghost made_as = { λ _. None };
+    ghost told = { told_store };
 
     fn write(&mut self, bytes: &[u8]) -> Result<usize, Failed>
-        ensures within { IfOk result (λ n. n ≤ length bytes.now) }
-        ensures some { 0 < length bytes.now → IfOk result (λ n. 0 < n) }
-        ensures empty { length bytes.now ≡ 0 → result ≡ Ok 0 }
-        ensures appended { IfOk result
-            (λ n. Appends (Some self.old.written) (take n bytes.now) (Some self.new.written)) }
-        ensures failed { OnErr result (self.new.written ≡ self.old.written) }
-        ensures cause { OnErr result (Rose self.old.faults self.new.faults) }
-        ensures counts { self.old.faults ≤ self.new.faults }
+        ensures takes { IfOk result (λ n.
+            Takes (told_store self.old) bytes.now n (told_store self.new)) }
+        ensures refusing { OnErr result
+            (RefusesWriting (told_store self.old) bytes.now (told_store self.new)) }
+        ensures lasts { Lasts (told_store self.old) (told_store self.new) }
 
         // It fails exactly where this call is to fail or passes the room, and else takes the whole piece.
         ensures refuses { is_err result ≡ refuses self.old bytes.now }

@@ -1,7 +1,6 @@
 //! Reading a source to its end, and writing all of a piece.
-ghost use Rattle.std.specs.Prelude.{◌≡◌, ◌<◌, ◌≤◌, [], length, vec_len, IfOk, OnOk, OnErr, IsErrOf, IfSome};
-ghost use Rattle.bp_base.specs.Counts.{Rose};
-ghost use Rattle.bp_base.specs.Pieces.{GivesSome, Appends, AppendsFront};
+ghost use Rattle.std.specs.Prelude.{◌≤◌, IfOk, IfErr, OnOk, OnErr};
+ghost use Rattle.bp_base.specs.Outside.{ReadsAll, BreaksReading, Lasts, Wrote, WroteFront};
 
 use crate::{Failed, Sink, Source};
 use std::alloc::{AllocError, Global};
@@ -45,15 +44,10 @@ impl From<Failed> for ReadError {
 
 /// Reads up to the end, at most `limit` bytes. After an error some bytes have been taken.
 pub fn read_all<S: Source>(alloc: Global, source: &mut S, limit: u64) -> Result<Vec<u8>, ReadError>
-    ensures all { IfOk result (λ bytes. IfSome (S.left source.old) (λ left. bytes.items ≡ left)) }
-    ensures end { OnOk result (IfSome (S.left source.old) (λ _. S.left source.new ≡ Some [])) }
-    ensures within { IfOk result (λ bytes. vec_len bytes ≤ limit) }
-
-    ensures too_long { IsErrOf result ReadError.TooLong
-        → IfSome (S.left source.old) (λ left. limit < length left) }
-    ensures cause { IsErrOf result ReadError.Fault → Rose (S.faults source.old) (S.faults source.new) }
-    ensures taken { OnErr result (GivesSome (S.left source.old) (S.left source.new)) }
-    ensures counts { S.faults source.old ≤ S.faults source.new }
+    ensures reads { IfOk result (λ bytes.
+        ReadsAll (S.told source.old) limit bytes.items (S.told source.new)) }
+    ensures breaks { IfErr result (BreaksReading (S.told source.old) limit (S.told source.new)) }
+    ensures counts { (S.told source.old).faults ≤ (S.told source.new).faults }
 {
     let mut bytes = Vec::new(alloc);
     let mut piece = [0u8; 4096];
@@ -69,11 +63,9 @@ pub fn read_all<S: Source>(alloc: Global, source: &mut S, limit: u64) -> Result<
 
 /// Writes the whole piece. After an error a prefix of it has been appended.
 pub fn write_all<K: Sink>(sink: &mut K, bytes: &[u8]) -> Result<(), Failed>
-    ensures whole { OnOk result (Appends (K.written sink.old) bytes.now (K.written sink.new)) }
-    ensures front { OnErr result (AppendsFront (K.written sink.old) bytes.now (K.written sink.new)) }
-    ensures cause { OnErr result (Rose (K.faults sink.old) (K.faults sink.new)) }
-    ensures counts { K.faults sink.old ≤ K.faults sink.new }
-    ensures named { K.made_as sink.new ≡ K.made_as sink.old }
+    ensures whole { OnOk result (Wrote (K.told sink.old) bytes.now (K.told sink.new)) }
+    ensures front { OnErr result (WroteFront (K.told sink.old) bytes.now (K.told sink.new)) }
+    ensures lasts { Lasts (K.told sink.old) (K.told sink.new) }
 {
     let mut done = 0;
     while done < bytes.len() {

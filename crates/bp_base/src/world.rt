@@ -1,8 +1,9 @@
 //! A world in memory, which tells all, and fails at the calls that its lists name.
-ghost use Rattle.std.specs.Prelude.{◌≡◌, ◌<◌, ◌≤◌, true, false, [], OnOk, OnErr, IfOk, IsErrOf, IsSomeAnd, string_bytes, option_copied, option_map};
+ghost use Rattle.std.specs.Prelude.{◌≡◌, ◌<◌, ◌≤◌, true, false, [], OnOk, OnErr, IfErr, IfOk, IsErrOf, IsSomeAnd, string_bytes, option_copied, option_map};
 ghost use Rattle.bp_base.specs.Counts.{Rose, raised};
-ghost use Rattle.bp_base.specs.Worlds.{Opens, Asks, Sets, Keeps};
-ghost use Rattle.bp_base.specs.Memory.{supply, under, empty_files, can_open, failing_under, asked_for, output};
+ghost use Rattle.bp_base.specs.Worlds.{Sets};
+ghost use Rattle.bp_base.specs.Outside.{OpensAs, OpensNone, OnlyReads, CreatesAs, CreatesNone, OnlyMakes, ClosesInput, ClosesOutput};
+ghost use Rattle.bp_base.specs.Memory.{supply, under, empty_files, can_open, failing_under, asked_for, opened_as, made_as, output, told_supply, told_made, told_files};
 ghost use Rattle.bp_base.specs.inner.Calls.{is_to_fail};
 
 use crate::calls::Calls;
@@ -54,13 +55,9 @@ impl MemoryOutput {
 }
 
 impl Sink for MemoryOutput {
-    ghost use Rattle.std.specs.Prelude.{Some};
+    ghost use Rattle.bp_base.specs.Memory.{told_made};
 
-    ghost written = { λ o. Some o.store.written };
-
-    ghost faults = { λ o. o.store.faults };
-
-    ghost made_as = { λ o. Some o.name };
+    ghost told = { told_made };
 
     fn write(&mut self, bytes: &[u8]) -> Result<usize, Failed> {
         self.sink.write(bytes)
@@ -74,6 +71,8 @@ pub struct MemoryWorld {
     held: Shelf<u8>,
     failing: Shelf<u64>,
     asked: Vec<String>,
+    opened: Vec<String>,
+    made: Vec<String>,
     calls: Calls,
     read_faults: u64,
     write_faults: u64,
@@ -87,6 +86,8 @@ impl Drop for MemoryWorld {
             held: _,
             failing: _,
             asked: _,
+            opened: _,
+            made: _,
             calls: _,
             read_faults: _,
             write_faults: _,
@@ -107,6 +108,8 @@ impl Model for MemoryWorld {
       held = entries_of w.held;
       failing = entries_of w.failing;
       asked = map string_bytes w.asked.items;
+      opened = map string_bytes w.opened.items;
+      made = map string_bytes w.made.items;
       calls = w.calls;
       read_faults = w.read_faults;
       write_faults = w.write_faults;
@@ -125,6 +128,8 @@ impl MemoryWorld {
             held: Shelf::Empty,
             failing: Shelf::Empty,
             asked: Vec::new(alloc),
+            opened: Vec::new(alloc),
+            made: Vec::new(alloc),
             calls: Calls::new(fails),
             read_faults: 0,
             write_faults: 0,
@@ -216,46 +221,35 @@ impl World for MemoryWorld {
 
     type Output = MemoryOutput;
 
-    ghost use Rattle.std.specs.Prelude.{Some};
-    ghost use Rattle.bp_base.specs.Memory.{under};
+    ghost use Rattle.bp_base.specs.Memory.{told_files};
 
-    ghost holds = { λ w. Some (under w.held) };
-
-    ghost asked = { λ w. Some w.asked };
-
-    ghost read_faults = { λ w. w.read_faults };
-
-    ghost write_faults = { λ w. w.write_faults };
+    ghost told = { told_files };
 
     fn open(&mut self, name: &str) -> Result<MemorySource, WorldError>
-        ensures content { IfOk result
-            (λ input. Opens (Some (under self.old.held)) name.now (Some input.left)) }
-        ensures fresh { IfOk result (λ input. input.faults ≡ 0) }
-        ensures cause { IsErrOf result WorldError.Failed →
-            Rose self.old.read_faults self.new.read_faults }
-        ensures counts { self.old.read_faults ≤ self.new.read_faults }
-        ensures asks { OnOk result (Asks (Some self.old.asked) name.now (Some self.new.asked)) }
-        ensures asks_failed { IsErrOf result WorldError.Failed
-            → Asks (Some self.old.asked) name.now (Some self.new.asked) }
-        ensures asks_nothing { IsErrOf result WorldError.Memory →
-            Some self.new.asked ≡ Some self.old.asked }
-        ensures keeps { Some (under self.new.held) ≡ Some (under self.old.held) }
-        ensures writes { self.new.write_faults ≡ self.old.write_faults }
+        ensures opens { IfOk result (λ input.
+            OpensAs (told_files self.old) name.now (told_supply input) (told_files self.new)) }
+        ensures none { IfErr result (OpensNone (told_files self.old) name.now (told_files self.new)) }
+        ensures only { OnlyReads (told_files self.old) (told_files self.new) }
 
         // It fails exactly where this call is to fail or nothing is held under the name.
-        ensures opens { OnOk result (can_open self.old name.now ≡ true) }
+        ensures can_open { OnOk result (can_open self.old name.now ≡ true) }
         ensures refuses { IsErrOf result WorldError.Failed → can_open self.old name.now ≡ false }
         ensures input { IfOk result (λ input. IsSomeAnd (under self.old.held name.now)
             (λ bytes. input ≡ supply bytes (failing_under self.old name.now))) }
-        ensures after { OnOk result (self.new ≡ asked_for self.old name.now) }
+        ensures after { OnOk result (self.new ≡ opened_as self.old name.now) }
         ensures after_failed { IsErrOf result WorldError.Failed → self.new
             ≡ record (asked_for self.old name.now) { read_faults = raised self.old.read_faults } }
         ensures after_memory { IsErrOf result WorldError.Memory → self.new ≡ self.old }
     {
         let input = self.input(name)?;
+        let opened = name.to_string(self.alloc)?;
+        self.opened.reserve(1)?;
         let fails = self.ask(name)?;
         match input {
-            Some(input) if !fails => Ok(input),
+            Some(input) if !fails => {
+                self.opened.push_reserved(opened);
+                Ok(input)
+            }
             _ => {
                 self.read_faults = self.read_faults.saturating_add(1);
                 Err(WorldError::Failed)
@@ -264,45 +258,33 @@ impl World for MemoryWorld {
     }
 
     fn create(&mut self, name: &str) -> Result<MemoryOutput, WorldError>
-        ensures empty { IfOk result (λ made. Some made.store.written ≡ Some []) }
-        ensures fresh { IfOk result (λ made. made.store.faults ≡ 0) }
-        ensures made { IfOk result (λ made. made.name ≡ name.now) }
-        ensures cause { IsErrOf result WorldError.Failed →
-            Rose self.old.write_faults self.new.write_faults }
-        ensures counts { self.old.write_faults ≤ self.new.write_faults }
-        ensures asks { OnOk result (Asks (Some self.old.asked) name.now (Some self.new.asked)) }
-        ensures asks_failed { IsErrOf result WorldError.Failed
-            → Asks (Some self.old.asked) name.now (Some self.new.asked) }
-        ensures asks_nothing { IsErrOf result WorldError.Memory →
-            Some self.new.asked ≡ Some self.old.asked }
-        ensures keeps { Some (under self.new.held) ≡ Some (under self.old.held) }
-        ensures reads { self.new.read_faults ≡ self.old.read_faults }
+        ensures creates { IfOk result (λ made.
+            CreatesAs (told_files self.old) name.now (told_made made) (told_files self.new)) }
+        ensures none { IfErr result (CreatesNone (told_files self.old) name.now (told_files self.new)) }
+        ensures only { OnlyMakes (told_files self.old) (told_files self.new) }
 
         // It fails exactly where this call is to fail.
-        ensures creates { OnOk result (is_to_fail self.old.calls ≡ false) }
+        ensures can_create { OnOk result (is_to_fail self.old.calls ≡ false) }
         ensures refuses { IsErrOf result WorldError.Failed → is_to_fail self.old.calls ≡ true }
         ensures output { IfOk result (λ made. made ≡ output self.old name.now) }
-        ensures after { OnOk result (self.new ≡ asked_for self.old name.now) }
+        ensures after { OnOk result (self.new ≡ made_as self.old name.now) }
         ensures after_failed { IsErrOf result WorldError.Failed → self.new
             ≡ record (asked_for self.old name.now) { write_faults = raised self.old.write_faults } }
         ensures after_memory { IsErrOf result WorldError.Memory → self.new ≡ self.old }
     {
-        let made = self.output(name)?;
+        let output = self.output(name)?;
+        let made = name.to_string(self.alloc)?;
+        self.made.reserve(1)?;
         if self.ask(name)? {
             self.write_faults = self.write_faults.saturating_add(1);
             return Err(WorldError::Failed);
         }
-        Ok(made)
+        self.made.push_reserved(made);
+        Ok(output)
     }
 
     fn close_input(&mut self, input: MemorySource)
-        ensures risen { 0 < input.faults → Rose self.old.read_faults self.new.read_faults }
-        ensures clean { input.faults ≡ 0 → self.new.read_faults ≡ self.old.read_faults }
-        ensures counts { self.old.read_faults ≤ self.new.read_faults }
-        ensures asked { Some self.new.asked ≡ Some self.old.asked }
-        ensures keeps { Some (under self.new.held) ≡ Some (under self.old.held) }
-        ensures writes { self.new.write_faults ≡ self.old.write_faults }
-
+        ensures closes { ClosesInput (told_files self.old) (told_supply input) (told_files self.new) }
         ensures raised { 0 < input.faults → self.new.read_faults ≡ raised self.old.read_faults }
         ensures rest { self.new ≡ record self.old { read_faults = self.new.read_faults } }
     {
@@ -313,14 +295,8 @@ impl World for MemoryWorld {
 
     fn close_output(&mut self, name: &str, output: MemoryOutput)
         requires { output.name ≡ name.now }
-        ensures sets { Keeps (Some (under self.old.held)) name.now (Some output.store.written)
-            (Some (under self.new.held)) }
-        ensures risen { 0 < output.store.faults → Rose self.old.write_faults self.new.write_faults }
-        ensures clean { output.store.faults ≡ 0 → self.new.write_faults ≡ self.old.write_faults }
-        ensures counts { self.old.write_faults ≤ self.new.write_faults }
-        ensures asked { Some self.new.asked ≡ Some self.old.asked }
-        ensures reads { self.new.read_faults ≡ self.old.read_faults }
-
+        ensures closes { ClosesOutput (told_files self.old) name.now (told_made output)
+            (told_files self.new) }
         ensures raised { 0 < output.store.faults →
             self.new.write_faults ≡ raised self.old.write_faults }
         ensures rest { self.new

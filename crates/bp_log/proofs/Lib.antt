@@ -2,4 +2,5 @@ pub mod Bounds
 pub mod Complete
 pub mod Equality
 mod Plain
+pub mod Printing
 pub mod Rows

@@ -5,4 +5,5 @@ pub mod Verdicts
 pub mod Records
 pub mod Texts
 pub mod Logs
+pub mod Printing
 pub mod inner

@@ -1,7 +1,7 @@
 //! Lines of the trace as text, and their printing.
-ghost use Rattle.std.specs.Prelude.{◌≡◌, ◌≤◌, ◌++◌, IfOk, OnOk, OnErr, IsErrOf, string_bytes};
-ghost use Rattle.bp_base.specs.Counts.{Rose};
-ghost use Rattle.bp_base.specs.Pieces.{Appends, AppendsFront};
+ghost use Rattle.std.specs.Prelude.{◌≡◌, ◌++◌, IfErr, IfOk, OnOk, string_bytes};
+ghost use Rattle.bp_base.specs.Outside.{Lasts, Wrote};
+ghost use Rattle.bp_log.specs.Printing.{PrintsFront};
 ghost use Rattle.bp_log.specs.Texts.{line_text, whole_line};
 
 use crate::behind::{push_event, push_named, push_said, push_verdict};
@@ -94,13 +94,10 @@ pub fn whole_line_of(alloc: Global, line: &Line) -> Result<Text, Memory>
 /// appended, and after `Memory` nothing.
 pub fn print<K: Sink>(alloc: Global, line: &Line, sink: &mut K) -> Result<(), PrintError>
     ensures whole { OnOk result
-        (Appends (K.written sink.old) (whole_line line.now) (K.written sink.new)) }
-    ensures front { OnErr result
-        (AppendsFront (K.written sink.old) (whole_line line.now) (K.written sink.new)) }
-    ensures nothing { IsErrOf result PrintError.Memory → K.written sink.new ≡ K.written sink.old }
-    ensures cause { IsErrOf result PrintError.Write → Rose (K.faults sink.old) (K.faults sink.new) }
-    ensures counts { K.faults sink.old ≤ K.faults sink.new }
-    ensures named { K.made_as sink.new ≡ K.made_as sink.old }
+        (Wrote (K.told sink.old) (whole_line line.now) (K.told sink.new)) }
+    ensures front { IfErr result
+        (PrintsFront (K.told sink.old) (whole_line line.now) (K.told sink.new)) }
+    ensures lasts { Lasts (K.told sink.old) (K.told sink.new) }
 {
     let text = whole_line_of(alloc, line)?;
     write_all(sink, text.as_str().as_bytes())?;

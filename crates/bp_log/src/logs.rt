@@ -1,7 +1,7 @@
 //! The text of a log, written: its header, and its records one by one.
-ghost use Rattle.std.specs.Prelude.{◌≡◌, ◌≤◌, ◌++◌, IfOk, OnOk, OnErr, IsErrOf, decimal, codes, string_bytes};
-ghost use Rattle.bp_base.specs.Counts.{Rose};
-ghost use Rattle.bp_base.specs.Pieces.{Appends, AppendsFront};
+ghost use Rattle.std.specs.Prelude.{◌≡◌, ◌++◌, IfErr, IfOk, OnOk, decimal, codes, string_bytes};
+ghost use Rattle.bp_base.specs.Outside.{Lasts, Wrote};
+ghost use Rattle.bp_log.specs.Printing.{PrintsFront};
 ghost use Rattle.bp_log.specs.Logs.{record_text, whole_record, strategy_name, options_text, header_text};
 ghost use Rattle.bp_log.specs.declared.version.Version.TheVariants as version;
 
@@ -63,14 +63,11 @@ fn header_of(alloc: Global, header: &Header) -> Result<Vec<u8>, Memory>
 /// Writes the head of a log of the second version, up to the line end after the program. After `Write` a part of it, from
 /// its front, was appended, and after `Memory` nothing.
 pub fn write_header<K: Sink>(alloc: Global, header: &Header, sink: &mut K) -> Result<(), PrintError>
-    ensures whole { OnOk result (Appends (K.written sink.old)
-        (header_text version.Second header.now) (K.written sink.new)) }
-    ensures front { OnErr result (AppendsFront (K.written sink.old)
-        (header_text version.Second header.now) (K.written sink.new)) }
-    ensures nothing { IsErrOf result PrintError.Memory → K.written sink.new ≡ K.written sink.old }
-    ensures cause { IsErrOf result PrintError.Write → Rose (K.faults sink.old) (K.faults sink.new) }
-    ensures counts { K.faults sink.old ≤ K.faults sink.new }
-    ensures named { K.made_as sink.new ≡ K.made_as sink.old }
+    ensures whole { OnOk result
+        (Wrote (K.told sink.old) (header_text version.Second header.now) (K.told sink.new)) }
+    ensures front { IfErr result
+        (PrintsFront (K.told sink.old) (header_text version.Second header.now) (K.told sink.new)) }
+    ensures lasts { Lasts (K.told sink.old) (K.told sink.new) }
 {
     let bytes = header_of(alloc, header)?;
     write_all(sink, bytes.as_slice())?;
@@ -124,13 +121,10 @@ fn whole_record_of(alloc: Global, entry: &Record) -> Result<Text, Memory>
 /// appended, and after `Memory` nothing.
 pub fn write_record<K: Sink>(alloc: Global, entry: &Record, sink: &mut K) -> Result<(), PrintError>
     ensures whole { OnOk result
-        (Appends (K.written sink.old) (whole_record entry.now) (K.written sink.new)) }
-    ensures front { OnErr result
-        (AppendsFront (K.written sink.old) (whole_record entry.now) (K.written sink.new)) }
-    ensures nothing { IsErrOf result PrintError.Memory → K.written sink.new ≡ K.written sink.old }
-    ensures cause { IsErrOf result PrintError.Write → Rose (K.faults sink.old) (K.faults sink.new) }
-    ensures counts { K.faults sink.old ≤ K.faults sink.new }
-    ensures named { K.made_as sink.new ≡ K.made_as sink.old }
+        (Wrote (K.told sink.old) (whole_record entry.now) (K.told sink.new)) }
+    ensures front { IfErr result
+        (PrintsFront (K.told sink.old) (whole_record entry.now) (K.told sink.new)) }
+    ensures lasts { Lasts (K.told sink.old) (K.told sink.new) }
 {
     let text = whole_record_of(alloc, entry)?;
     write_all(sink, text.as_str().as_bytes())?;

@@ -53,9 +53,7 @@ pub struct FileSource {
 impl Source for FileSource {
     ghost use Rattle.std.specs.Prelude.{None};
 
-    ghost left = { λ _. None };
-
-    ghost faults = { λ s. s.faults };
+    ghost told = { λ s. record { left = None; faults = s.faults } };
 
     fn read(&mut self, into: &mut [u8]) -> Result<usize, Failed> {
         match read_once(&mut self.file, into) {
@@ -78,7 +76,7 @@ pub struct StreamSink<W: Write + Drop> {
 impl<W: Write + Drop> StreamSink<W> {
     /// A sink over this stream that has not failed.
     pub fn new(writer: W) -> StreamSink<W>
-        ensures { ⟦<StreamSink<W> as Sink>⟧.faults result ≡ 0 }
+        ensures { (⟦<StreamSink<W> as Sink>⟧.told result).faults ≡ 0 }
     {
         StreamSink { writer, faults: 0 }
     }
@@ -87,11 +85,7 @@ impl<W: Write + Drop> StreamSink<W> {
 impl<W: Write + Drop> Sink for StreamSink<W> {
     ghost use Rattle.std.specs.Prelude.{None};
 
-    ghost written = { λ _. None };
-
-    ghost faults = { λ s. s.faults };
-
-    ghost made_as = { λ _. None };
+    ghost told = { λ s. record { written = None; faults = s.faults; made_as = None } };
 
     fn write(&mut self, bytes: &[u8]) -> Result<usize, Failed> {
         if bytes.is_empty() {
@@ -116,11 +110,7 @@ pub struct FileSink {
 impl Sink for FileSink {
     ghost use Rattle.std.specs.Prelude.{None};
 
-    ghost written = { λ _. None };
-
-    ghost faults = { λ s. s.stream.faults };
-
-    ghost made_as = { λ _. None };
+    ghost told = { λ s. record { written = None; faults = s.stream.faults; made_as = None } };
 
     fn write(&mut self, bytes: &[u8]) -> Result<usize, Failed> {
         self.stream.write(bytes)
@@ -140,10 +130,17 @@ pub struct FileWorld<R: Files<File = File> + Drop> {
 }
 
 impl<R: Files<File = File> + Drop> FileWorld<R> {
+<<<<<<< HEAD:crates/bp_system/src/files.rt
     /// The files that the runtime reaches, none of which was opened or has failed.
     pub fn new(rt: R, alloc: Global) -> FileWorld<R>
         ensures read { ⟦<FileWorld<R> as World>⟧.read_faults result ≡ 0 }
         ensures written { ⟦<FileWorld<R> as World>⟧.write_faults result ≡ 0 }
+=======
+    /// The files that the runtime reaches, none of which has failed.
+    pub fn new(rt: R) -> FileWorld<R>
+        ensures read { (⟦<FileWorld<R> as World>⟧.told result).read_faults ≡ 0 }
+        ensures written { (⟦<FileWorld<R> as World>⟧.told result).write_faults ≡ 0 }
+>>>>>>> 61a94771 (stack trial):crates/bp_base/src/system.rt
     {
         FileWorld {
             rt,
@@ -204,13 +201,7 @@ impl<R: Files<File = File> + Drop> World for FileWorld<R> {
 
     ghost use Rattle.std.specs.Prelude.{None};
 
-    ghost holds = { λ _. None };
-
-    ghost asked = { λ _. None };
-
-    ghost read_faults = { λ w. w.read_faults };
-
-    ghost write_faults = { λ w. w.write_faults };
+    ghost told = { λ w. record { holds = None; asked = None; read_faults = w.read_faults; write_faults = w.write_faults } };
 
     fn open(&mut self, name: &str) -> Result<FileSource, WorldError> {
         self.opened.reserve(1)?;

@@ -7,9 +7,11 @@ use Rattle.bp_log.specs.declared.record.Record.{Record}
 use Rattle.bp_log.specs.declared.trace.Line.{Line}
 use Rattle.bp_told.specs.Logging.{LogGets, LogGetsFront, LogShows, LogShowsFront}
 use Rattle.bp_told.specs.Order.{Texts, PrintsBehind, StaysBehind}
+use Rattle.bp_told.specs.Outlets.{PlainOutlets}
 use Rattle.bp_told.specs.Pages.{Shows, ShowsFront}
 use Rattle.bp_told.specs.declared.fault.RunFault.{RunFault}
 use Rattle.bp_told.specs.declared.fault.RunFault.TheVariants.{LogWrite}
+<<<<<<< HEAD
 use Rattle.bp_told.specs.declared.page.TheConstants.{FULL}
 
 -- what waits to be written: lines for the output, and text for the log; and how many records were told
@@ -17,11 +19,15 @@ pub record Waiting : Type 0 where
   pub lines : List ℕ
   pub records : List ℕ
   pub kept : ℕ
+=======
+use Rattle.bp_told.specs.declared.telling.Telling.{Telling}
+>>>>>>> 61a94771 (stack trial)
 
 -- nothing waits to be written
-abbrev pub NothingWaits : Waiting → Type 0
+abbrev pub NothingWaits : Telling → Type 0
 NothingWaits w = (w.lines ≡ []) × (w.records ≡ [])
 
+<<<<<<< HEAD
 -- less waits for either than what is written at once
 abbrev pub IsWithin : Waiting → Type 0
 IsWithin w = (length w.lines < FULL) × (length w.records < FULL)
@@ -34,93 +40,93 @@ pub record Given (L : Type 0) : Type 0 where
 abbrev pub given : {K L : Type 0} → (K → Option (List ℕ)) → K → Option L → Given L
 given written out log = record { printed = written out; log = log }
 
+=======
+>>>>>>> 61a94771 (stack trial)
 -- these lines come of the records: the text of the records begins with theirs
 abbrev pub ComesOf : Texts → List Record → List Line → Type 0
 ComesOf text records lines = (rest : List ℕ) × (text records ≡ Some (lines_text lines ++ rest))
 
 -- Since the first moment the log was given its head and these records, and the output these lines, but
 -- for what waits; and what was printed is of records that stand in the log.
-pub record IsTold (L : Type 0) (written : L → Option (List ℕ)) (text : Texts) (head : List ℕ)
-    (first now : Given L) (waiting : Waiting) (records : List Record) (lines : List Line)
+pub record IsTold (text : Texts) (head : List ℕ)
+    (first now : PlainOutlets) (waiting : Telling) (records : List Record) (lines : List Line)
     : Type 0 where
   pub comes : ComesOf text records lines
   pub kept : waiting.kept ≡ length records
-  pub logs : LogShows written first.log (head ++ records_text records) waiting.records now.log
-  pub shows : Shows first.printed (lines_text lines) waiting.lines now.printed
-  pub behind : PrintsBehind written text head records first.printed now.printed first.log now.log
+  pub logs : LogShows first.log (head ++ records_text records) waiting.records now.log
+  pub shows : Shows first.out.written (lines_text lines) waiting.lines now.out.written
+  pub behind : PrintsBehind text head records first.out.written now.out.written first.log now.log
 
 -- Telling these records and lines broke off: a front of each was given or waits. Unless the log
 -- failed, what waits may still be written.
-pub record IsBroken (L : Type 0) (written : L → Option (List ℕ)) (text : Texts) (head : List ℕ)
-    (first now : Given L) (waiting : Waiting) (records : List Record) (lines : List Line)
+pub record IsBroken (text : Texts) (head : List ℕ)
+    (first now : PlainOutlets) (waiting : Telling) (records : List Record) (lines : List Line)
     (fault : RunFault) : Type 0 where
   pub comes : ComesOf text records lines
-  pub logs : LogShowsFront written first.log (head ++ records_text records) waiting.records now.log
-  pub shows : ShowsFront first.printed (lines_text lines) waiting.lines now.printed
-  pub behind : PrintsBehind written text head records first.printed now.printed first.log now.log
-  pub waits : ¬ (fault ≡ LogWrite) → StaysBehind _ written text head records first.printed
-      waiting.lines now.printed first.log waiting.records now.log
+  pub logs : LogShowsFront first.log (head ++ records_text records) waiting.records now.log
+  pub shows : ShowsFront first.out.written (lines_text lines) waiting.lines now.out.written
+  pub behind : PrintsBehind text head records first.out.written now.out.written first.log now.log
+  pub waits : ¬ (fault ≡ LogWrite) → StaysBehind text head records first.out.written
+      waiting.lines now.out.written first.log waiting.records now.log
 
 -- All of these records and lines were written.
-pub record IsWritten (L : Type 0) (written : L → Option (List ℕ)) (head : List ℕ)
-    (first now : Given L) (records : List Record) (lines : List Line) : Type 0 where
-  pub logs : LogGets written first.log (head ++ records_text records) now.log
-  pub prints : Appends first.printed (lines_text lines) now.printed
+pub record IsWritten (head : List ℕ)
+    (first now : PlainOutlets) (records : List Record) (lines : List Line) : Type 0 where
+  pub logs : LogGets first.log (head ++ records_text records) now.log
+  pub prints : Appends first.out.written (lines_text lines) now.out.written
 
 -- A front of these records and a front of these lines were written, each line after its record.
-pub record IsPartly (L : Type 0) (written : L → Option (List ℕ)) (text : Texts) (head : List ℕ)
-    (first now : Given L) (records : List Record) (lines : List Line) : Type 0 where
+pub record IsPartly (text : Texts) (head : List ℕ)
+    (first now : PlainOutlets) (records : List Record) (lines : List Line) : Type 0 where
   pub comes : ComesOf text records lines
-  pub logs : LogGetsFront written first.log (head ++ records_text records) now.log
-  pub prints : AppendsFront first.printed (lines_text lines) now.printed
-  pub behind : PrintsBehind written text head records first.printed now.printed first.log now.log
+  pub logs : LogGetsFront first.log (head ++ records_text records) now.log
+  pub prints : AppendsFront first.out.written (lines_text lines) now.out.written
+  pub behind : PrintsBehind text head records first.out.written now.out.written first.log now.log
 
 -- ---- from one moment to the next
 
 -- nothing was told of any run, and the head waits for the log, where one is kept
-abbrev pub BeginsTelling : {L : Type 0} → (L → Option (List ℕ)) → List ℕ → Option L → Waiting → Type 0
-BeginsTelling written head log waiting =
-    (text : Texts) (printed : Option (List ℕ)) → IsSome (text [])
-    → IsTold _ written text head (record { printed = printed; log = log })
-    (record { printed = printed; log = log }) waiting [] []
+abbrev pub BeginsTelling : List ℕ → PlainOutlets → Telling → Type 0
+BeginsTelling head first waiting =
+    (text : Texts) → IsSome (text []) → IsTold text head first first waiting [] []
 
 -- whatever was told is told with the rest of these records, and with further lines that come of them
-abbrev pub TellsOn : {L : Type 0} → (L → Option (List ℕ)) → List Record → List Line →
-    Given L → Waiting → Given L → Waiting → Type 0
-TellsOn written records more old before new after =
-    (text : Texts) (head : List ℕ) (first : Given _) (lines : List Line)
-    → IsTold _ written text head first old before (take before.kept records) lines
+abbrev pub TellsOn : List Record → List Line →
+    PlainOutlets → Telling → PlainOutlets → Telling → Type 0
+TellsOn records more old before new after =
+    (text : Texts) (head : List ℕ) (first : PlainOutlets) (lines : List Line)
+    → IsTold text head first old before (take before.kept records) lines
     → ComesOf text records (lines ++ more)
-    → IsTold _ written text head first new after records (lines ++ more)
+    → IsTold text head first new after records (lines ++ more)
 
 -- or that breaks off
-abbrev pub BreaksOff : {L : Type 0} → (L → Option (List ℕ)) → List Record → List Line →
-    Given L → Waiting → Given L → Waiting → RunFault → Type 0
-BreaksOff written records more old before new after fault =
-    (text : Texts) (head : List ℕ) (first : Given _) (lines : List Line)
-    → IsTold _ written text head first old before (take before.kept records) lines
+abbrev pub BreaksOff : List Record → List Line →
+    PlainOutlets → Telling → PlainOutlets → Telling → RunFault → Type 0
+BreaksOff records more old before new after fault =
+    (text : Texts) (head : List ℕ) (first : PlainOutlets) (lines : List Line)
+    → IsTold text head first old before (take before.kept records) lines
     → ComesOf text records (lines ++ more)
-    → IsBroken _ written text head first new after records (lines ++ more) fault
+    → IsBroken text head first new after records (lines ++ more) fault
 
 -- all that was told was written
-abbrev pub WritesAll : {L : Type 0} → (L → Option (List ℕ)) → Given L → Waiting → Given L → Waiting →
+abbrev pub WritesAll : PlainOutlets → Telling → PlainOutlets → Telling →
     Type 0
-WritesAll written old before new after =
-    (text : Texts) (head : List ℕ) (first : Given _) (records : List Record) (lines : List Line)
-    → IsTold _ written text head first old before records lines
-    → IsTold _ written text head first new after records lines
-    × IsWritten _ written head first new records lines
+WritesAll old before new after =
+    (text : Texts) (head : List ℕ) (first : PlainOutlets) (records : List Record) (lines : List Line)
+    → IsTold text head first old before records lines
+    → IsTold text head first new after records lines
+    × IsWritten head first new records lines
 
 -- a front of what was told before telling broke off was written
-abbrev pub WritesPart : {L : Type 0} → (L → Option (List ℕ)) → Given L → Waiting → Given L → Type 0
-WritesPart written old before new =
-    (text : Texts) (head : List ℕ) (first : Given _) (records : List Record) (lines : List Line)
+abbrev pub WritesPart : PlainOutlets → Telling → PlainOutlets → Type 0
+WritesPart old before new =
+    (text : Texts) (head : List ℕ) (first : PlainOutlets) (records : List Record) (lines : List Line)
     (fault : RunFault)
     → ¬ (fault ≡ LogWrite)
-    → IsBroken _ written text head first old before records lines fault
-    → IsPartly _ written text head first new records lines
+    → IsBroken text head first old before records lines fault
+    → IsPartly text head first new records lines
 
 -- all that waited was written: what was for the log, and the lines
-abbrev pub WritesOut : {L : Type 0} → (L → Option (List ℕ)) → Given L → Waiting → Given L → Type 0
-WritesOut written old before new =
-    LogGets written old.log before.records new.log × Appends old.printed before.lines new.printed
+abbrev pub WritesOut : PlainOutlets → Telling → PlainOutlets → Type 0
+WritesOut old before new =
+    LogGets old.log before.records new.log × Appends old.out.written before.lines new.out.written

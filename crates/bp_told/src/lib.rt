@@ -2,9 +2,11 @@
 #![tactic(auto)]
 
 mod fault;
+mod outlets;
 mod page;
 mod telling;
 
 pub use fault::RunFault;
+pub use outlets::Outlets;
 pub use page::Page;
 pub use telling::Telling;

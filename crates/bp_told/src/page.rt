@@ -1,7 +1,12 @@
 //! Text that waits to be written, so that the outside gets few and large pieces.
+<<<<<<< HEAD
 ghost use Rattle.std.specs.Prelude.{◌≡◌, ◌≤◌, ◌<◌, ◌++◌, ◌↔◌, [], length, Some, IsTrue, IfOk, OnOk, OnErr, IsErrOf};
+=======
+ghost use Rattle.std.specs.Prelude.{◌≡◌, ◌++◌, [], Some, IfOk, OnOk, OnErr, IsErrOf};
+>>>>>>> 61a94771 (stack trial)
 ghost use Rattle.bp_base.specs.Counts.{Rose};
-ghost use Rattle.bp_base.specs.Pieces.{Appends, AppendsFront};
+ghost use Rattle.bp_base.specs.Outside.{Lasts, Wrote, WroteFront};
+ghost use Rattle.bp_base.specs.Pieces.{AppendsFront};
 ghost use Rattle.bp_log.specs.Logs.{header_text, whole_record, records_text};
 ghost use Rattle.bp_log.specs.Texts.{whole_line, lines_text};
 ghost use Rattle.bp_log.specs.declared.version.Version.TheVariants.{Second};
@@ -35,11 +40,7 @@ impl Model for Page {
 impl Sink for Page {
     ghost use Rattle.std.specs.Prelude.{Some, None, ◌-◌, ◌^◌};
 
-    ghost written = { λ p. Some p };
-
-    ghost faults = { λ _. 2 ^ 64 - 1 };
-
-    ghost made_as = { λ _. None };
+    ghost told = { λ p. record { written = Some p; faults = 2 ^ 64 - 1; made_as = None } };
 
     fn write(&mut self, bytes: &[u8]) -> Result<usize, Failed> {
         if bytes.is_empty() {
@@ -127,12 +128,9 @@ impl Page {
     /// Writes what waits, and then nothing waits. After a refusal a front of it was written.
     pub fn write<K: Sink>(&mut self, out: &mut K) -> Result<(), Failed>
         ensures emptied { self.new ≡ [] }
-        ensures whole { OnOk result (Appends (K.written out.old) self.old (K.written out.new)) }
-        ensures front { OnErr result
-            (AppendsFront (K.written out.old) self.old (K.written out.new)) }
-        ensures cause { OnErr result (Rose (K.faults out.old) (K.faults out.new)) }
-        ensures counts { K.faults out.old ≤ K.faults out.new }
-        ensures named { K.made_as out.new ≡ K.made_as out.old }
+        ensures whole { OnOk result (Wrote (K.told out.old) self.old (K.told out.new)) }
+        ensures front { OnErr result (WroteFront (K.told out.old) self.old (K.told out.new)) }
+        ensures lasts { Lasts (K.told out.old) (K.told out.new) }
     {
         let written = write_all(out, self.bytes.as_slice());
         self.clear();
@@ -143,12 +141,11 @@ impl Page {
     pub fn spill<K: Sink>(&mut self, out: &mut K) -> Result<(), Failed>
         ensures within { length self.new < FULL }
         ensures shows { OnOk result
-            (Shows (K.written out.old) self.old self.new (K.written out.new)) }
+            (Shows (K.told out.old).written self.old self.new (K.told out.new).written) }
         ensures front { OnErr result
-            (ShowsFront (K.written out.old) self.old self.new (K.written out.new)) }
-        ensures cause { OnErr result (Rose (K.faults out.old) (K.faults out.new)) }
-        ensures counts { K.faults out.old ≤ K.faults out.new }
-        ensures named { K.made_as out.new ≡ K.made_as out.old }
+            (ShowsFront (K.told out.old).written self.old self.new (K.told out.new).written) }
+        ensures cause { OnErr result (Rose (K.told out.old).faults (K.told out.new).faults) }
+        ensures lasts { Lasts (K.told out.old) (K.told out.new) }
     {
         if !self.is_full() {
             return Ok(());
@@ -165,14 +162,17 @@ impl Page {
         out: &mut K,
     ) -> Result<(), PrintError>
         ensures shows { let text = self.old ++ lines_text lines.now in
-            OnOk result (Shows (K.written out.old) text self.new (K.written out.new)) }
+            OnOk result (Shows (K.told out.old).written text self.new (K.told out.new).written) }
         ensures front { let text = self.old ++ lines_text lines.now in
+<<<<<<< HEAD
             OnErr result (ShowsFront (K.written out.old) text self.new (K.written out.new)) }
         ensures within { length self.old < FULL → OnOk result (length self.new < FULL) }
+=======
+            OnErr result (ShowsFront (K.told out.old).written text self.new (K.told out.new).written) }
+>>>>>>> 61a94771 (stack trial)
         ensures cause { IsErrOf result PrintError.Write
-            → Rose (K.faults out.old) (K.faults out.new) }
-        ensures counts { K.faults out.old ≤ K.faults out.new }
-        ensures named { K.made_as out.new ≡ K.made_as out.old }
+            → Rose (K.told out.old).faults (K.told out.new).faults }
+        ensures lasts { Lasts (K.told out.old) (K.told out.new) }
     {
         for line in lines {
             self.add_line(alloc, line)?;

@@ -4,8 +4,8 @@ use Rattle.bp_base.proofs.moving.read_all.Given as goal
 
 abbrev pub invariant-loop-piece : goal.invariant-loop-piece
 invariant-loop-piece g l = record {
-  so_far : Gives (g.S.Source.left l.fn.source) l.bytes.items (g.S.Source.left l.source);
-  counts : g.S.Source.faults l.fn.source ≤ g.S.Source.faults l.source;
+  so_far : Gives (g.S.Source.told l.fn.source).left l.bytes.items (g.S.Source.told l.source).left;
+  counts : (g.S.Source.told l.fn.source).faults ≤ (g.S.Source.told l.source).faults;
 }
 
 abbrev pub decreases-loop-piece : goal.decreases-loop-piece

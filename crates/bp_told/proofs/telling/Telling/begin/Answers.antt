@@ -5,5 +5,5 @@ use Rattle.bp_told.proofs.Told.{told_first}
 use Rattle.bp_told.proofs.telling.Telling.begin.Goals as goal
 
 pub returns-clause-begins : goal.returns-clause-begins
-returns-clause-begins g c = λ text printed s.
-    told_first g.L.Sink.written text (header_text Second c.args.header.now) (record { printed = printed; log = c.args.log.now }) (record { lines = c.new.result; records = c.in_ok-records.records; kept = 0 }) s c.new.ensures refl c.in_ok-records.ensures
+returns-clause-begins g c = λ text s.
+    told_first text (header_text Second c.args.header.now) c.args.outlets.now (record { lines = c.new.result; records = c.in_ok-records.records; kept = 0 }) s c.new.ensures refl c.in_ok-records.ensures
