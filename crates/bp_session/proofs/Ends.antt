@@ -17,7 +17,9 @@ use Rattle.bp_floor.specs.declared.phase.Phase.TheVariants.{Rest}
 use Rattle.bp_arbiter.specs.Arbiters.{code_in, options_in}
 use Rattle.bp_core.specs.declared.stepping.Core.{Core}
 use Rattle.bp_core.proofs.Leads.{is_at_rest, told_is}
-use Rattle.bp_told.specs.Told.{Given, Waiting, WritesAll, WritesPart}
+use Rattle.bp_told.specs.Outlets.{PlainOutlets}
+use Rattle.bp_told.specs.declared.telling.Telling.{Telling}
+use Rattle.bp_told.specs.Told.{WritesAll, WritesPart}
 use Rattle.bp_told.specs.declared.fault.RunFault.{RunFault}
 use Rattle.bp_told.specs.declared.fault.RunFault.TheVariants.{Write, LogWrite, Memory}
 use Rattle.bp_told.proofs.Told.{told_broken, broken_part}
@@ -26,15 +28,16 @@ use Rattle.bp_session.specs.inner.Readings.{HasFailed}
 use Rattle.bp_session.specs.declared.stop.Stop.{Stop}
 use Rattle.bp_session.specs.declared.stop.Stop.TheVariants as stop
 use Rattle.bp_session.specs.Reports.{HasNoVerdict}
+use Rattle.bp_session.specs.inner.Services.{ServedRun, run_at}
 use Rattle.bp_session.specs.inner.Serving.{IsReady, IsServing, IsAllTold, IsBrokenOff, IsAllWritten, IsFrontWritten, IsServedTo, IsEnded, WritesRun, StopsServing, CanTellRest, ending_of}
 
 no_verdict : (v : Option logs.Verdict) → is_none v ≡ true → (elim v [ None ↦ false | Some w ↦ true ]) ≡ false
 no_verdict None h = refl
 no_verdict (Some v) h = absurd (cc)
 
-module _ {L : Type 0} (written : L → Option (List ℕ)) (l : Code Origin PlainSet) (o : PlainOptions) (head : List ℕ) (first : Given L) (c : Core) where
+module _ (l : Code Origin PlainSet) (o : PlainOptions) (head : List ℕ) (first : PlainOutlets) (c : Core) where
   -- where the core rests, its records have no verdict
-  pub undecided : (now : Given L) (w : Waiting) → IsServing written l o head first c now w → c.arbiter.phase ≡ Rest → HasNoVerdict l o c.arbiter.records
+  pub undecided : (now : PlainOutlets) (w : Telling) → IsServing l o head first (run_at c now w) → c.arbiter.phase ≡ Rest → HasNoVerdict l o c.arbiter.records
   undecided now w s f =
       let m = s.moment in
       let h = ((s.here).at).at in
@@ -46,13 +49,13 @@ module _ {L : Type 0} (written : L → Option (List ℕ)) (l : Code Origin Plain
       (subst (λ (p : PlainOptions). HasNoVerdict (code_in c.arbiter) p c.arbiter.records) s.options told)
 
   -- all that was told was written
-  pub all_written : (old new : Given L) (w v : Waiting) → WritesAll written old w new v → IsAllTold written l o head first c old w → IsAllWritten written l o head first c new
+  pub all_written : (old new : PlainOutlets) (w v : Telling) → WritesAll old w new v → IsAllTold l o head first (run_at c old w) → IsAllWritten l o head first c new
   all_written old new w v f t =
       let r = f (text l o) head first c.arbiter.records t.lines t.told in
       record { lines = t.lines; text_is = t.text_is; written_all = r.1; behind = (r.0).behind }
 
   -- all was told, and writing it failed
-  pub front_of_all : (old new : Given L) (w : Waiting) → WritesPart written old w new → IsAllTold written l o head first c old w → IsFrontWritten written l o head first c new
+  pub front_of_all : (old new : PlainOutlets) (w : Telling) → WritesPart old w new → IsAllTold l o head first (run_at c old w) → IsFrontWritten l o head first c new
   front_of_all old new w f t =
       record {
         story = subst (λ (x : Option (List ℕ)). IsSome x) (sym t.text_is) refl;
@@ -60,11 +63,11 @@ module _ {L : Type 0} (written : L → Option (List ℕ)) (l : Code Origin Plain
         later = [];
         lines = t.lines;
         is_front = append-nil c.arbiter.records;
-        part = f (text l o) head first c.arbiter.records t.lines Memory (λ e. let x : ⊥ = cc in x) (told_broken written (text l o) head first old w c.arbiter.records t.lines Memory t.told);
+        part = f (text l o) head first c.arbiter.records t.lines Memory (λ e. let x : ⊥ = cc in x) (told_broken (text l o) head first old w c.arbiter.records t.lines Memory t.told);
       }
 
   -- telling broke off, and what waited was written, or a front of it
-  pub front_of_part : (old new : Given L) (w : Waiting) (fault : RunFault) → ¬ (fault ≡ LogWrite) → WritesPart written old w new → IsBrokenOff written l o head first c old w fault → IsFrontWritten written l o head first c new
+  pub front_of_part : (old new : PlainOutlets) (w : Telling) (fault : RunFault) → ¬ (fault ≡ LogWrite) → WritesPart old w new → IsBrokenOff l o head first (run_at c old w) fault → IsFrontWritten l o head first c new
   front_of_part old new w fault n f b =
       record {
         story = b.story;
@@ -76,7 +79,7 @@ module _ {L : Type 0} (written : L → Option (List ℕ)) (l : Code Origin Plain
       }
 
   -- what waits is let go
-  pub front_let_go : (now : Given L) (w : Waiting) (fault : RunFault) → IsBrokenOff written l o head first c now w fault → IsFrontWritten written l o head first c now
+  pub front_let_go : (now : PlainOutlets) (w : Telling) (fault : RunFault) → IsBrokenOff l o head first (run_at c now w) fault → IsFrontWritten l o head first c now
   front_let_go now w fault b =
       record {
         story = b.story;
@@ -84,20 +87,20 @@ module _ {L : Type 0} (written : L → Option (List ℕ)) (l : Code Origin Plain
         later = b.later;
         lines = b.lines;
         is_front = b.is_front;
-        part = broken_part written (text l o) head first now w b.front b.lines fault b.broken;
+        part = broken_part (text l o) head first now w b.front b.lines fault b.broken;
       }
 
   -- the ending of a fault is that of a front
-  pub fault_ended : (now : Given L) (f : RunFault) → IsFrontWritten written l o head first c now → IsEnded written l o head first c now (ending_of f)
+  pub fault_ended : (now : PlainOutlets) (f : RunFault) → IsFrontWritten l o head first c now → IsEnded l o head first c now (ending_of f)
   fault_ended now Write h = h
   fault_ended now LogWrite h = h
   fault_ended now Memory h = h
 
 -- ---- where serving has come to
 
-module _ {L S : Type 0} (written : L → Option (List ℕ)) (before : Core) (old : Given L) (a : Waiting) (after : Core) (new : Given L) (b : Waiting) (readings : List (Reading S)) where
+module _ {S : Type 0} (before after : ServedRun) (readings : List (Reading S)) where
   -- where an injector failed, the rest can be told
-  pub can_tell : (served : Result logs.Verdict Stop) → IsReady written before old a → IfErr served (StopsServing written before old a after new b readings) → CanTellRest written after new b served
+  pub can_tell : (served : Result logs.Verdict Stop) → IsReady before → IfErr served (StopsServing before after readings) → CanTellRest after served
   can_tell (Ok v) r h = tt
   can_tell (Err (stop.Read j)) r h =
       let s = h r.code r.options r.head r.first r.serving in
@@ -106,14 +109,14 @@ module _ {L S : Type 0} (written : L → Option (List ℕ)) (before : Core) (old
   can_tell (Err (stop.Unwritten f)) r h = tt
 
   -- whatever run was served was served to where this stands
-  pub served_to : (served : Result logs.Verdict Stop) → IfOk served (λ v. verdict_of after.arbiter.records ≡ Some v) → OnOk served (WritesRun written before old a after new) → IfErr served (StopsServing written before old a after new b readings) →
-      (l : Code Origin PlainSet) (o : PlainOptions) (head : List ℕ) (first : Given L) → IsServing written l o head first before old a → IsServedTo written l o head first after new b readings served
+  pub served_to : (served : Result logs.Verdict Stop) → IfOk served (λ v. verdict_of after.core.arbiter.records ≡ Some v) → OnOk served (WritesRun before after) → IfErr served (StopsServing before after readings) →
+      (l : Code Origin PlainSet) (o : PlainOptions) (head : List ℕ) (first : PlainOutlets) → IsServing l o head first before → IsServedTo l o head first after readings served
   served_to (Ok v) f t h l o head first s = (f, t l o head first s)
   served_to (Err e) f t h l o head first s = h l o head first s
 
   -- it ends at a source that failed only where one failed
-  pub failed_of : (served : Result logs.Verdict Stop) (j : Option ℕ) → IsReady written before old a → IfErr served (StopsServing written before old a after new b readings) → IfSome j (λ k. served ≡ Err (stop.Read k)) → IfSome j (HasFailed readings)
+  pub failed_of : (served : Result logs.Verdict Stop) (j : Option ℕ) → IsReady before → IfErr served (StopsServing before after readings) → IfSome j (λ k. served ≡ Err (stop.Read k)) → IfSome j (HasFailed readings)
   failed_of served None r h e = tt
   failed_of served (Some j) r h e =
-      let s = subst (λ (x : Result logs.Verdict Stop). IfErr x (StopsServing written before old a after new b readings)) e h in
+      let s = subst (λ (x : Result logs.Verdict Stop). IfErr x (StopsServing before after readings)) e h in
       (s r.code r.options r.head r.first r.serving).1

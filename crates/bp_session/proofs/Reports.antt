@@ -7,7 +7,6 @@ use Rattle.js_data.proofs.Shared.{one_answer}
 use Rattle.js_program.specs.PlainProgram.{PlainProgram}
 use Rattle.js_value.specs.Value.{PlainSet}
 use Rattle.js_meaning.specs.Bodies.{Origin}
-use Rattle.bp_base.specs.declared.outside.Sink.{Ghosts}
 use Rattle.bp_base.specs.Pieces.{Gives, Appends, AppendsFront}
 use Rattle.bp_log.specs.Header.{PlainHeader}
 use Rattle.bp_log.specs.Logs.{header_text, records_text}
@@ -35,7 +34,9 @@ use Rattle.bp_feeds.specs.Reading.{IsAll}
 use Rattle.bp_steps.specs.Merging.{item_by, items_by}
 use Rattle.bp_core.specs.declared.stepping.Core.{Core}
 use Rattle.bp_told.specs.Order.{PrintsBehind}
-use Rattle.bp_told.specs.Told.{Given, Waiting, ComesOf, given}
+use Rattle.bp_told.specs.Outlets.{PlainOutlets}
+use Rattle.bp_told.specs.declared.telling.Telling.{Telling}
+use Rattle.bp_told.specs.Told.{ComesOf}
 use Rattle.bp_told.proofs.Logging.{log_front_longer, log_nothing}
 use Rattle.bp_told.proofs.Order.{behind_longer}
 use Rattle.bp_told.proofs.Pieces.{appends_nothing, longer_front, records_text-append}
@@ -45,9 +46,11 @@ use Rattle.bp_session.specs.inner.Readings.{AreBack, HasBroken}
 use Rattle.bp_session.specs.declared.report.Ending.{Ending}
 use Rattle.bp_session.specs.declared.report.Ending.TheVariants as ending
 use Rattle.bp_session.specs.inner.Lending.{Begins}
-use Rattle.bp_session.specs.inner.Outlets.{ended_fault, IsCaused}
+use Rattle.bp_told.specs.Words.{IsCaused}
+use Rattle.bp_session.specs.inner.Outlets.{ended_fault}
 use Rattle.bp_session.specs.Reports.{Wholly, Partly, NoneFailed, BrokeAt, ComeBack, EndsAs}
 use Rattle.bp_log.specs.Verdicts.{IsQuiet}
+use Rattle.bp_session.specs.inner.Services.{ServedRun, run_at}
 use Rattle.bp_session.specs.inner.Serving.{IsAllWritten, IsFrontWritten, IsEnded, EndsServing, broke_at}
 
 -- ---- what was written
@@ -62,26 +65,26 @@ front_text l o front later all lines a b (Some last) e s f c p =
     let whole : last ≡ (lines_text lines ++ c.0) ++ k.1 = k.3 ∙ ap (λ (ts : List ℕ). ts ++ k.1) same in
     subst (λ (ts : List ℕ). AppendsFront a ts b) (sym whole) (longer_front a b (lines_text lines ++ c.0) k.1 (longer_front a b (lines_text lines) c.0 p))
 
-module _ {L : Type 0} (written : L → Option (List ℕ)) (l : Code Origin PlainSet) (o : PlainOptions) (head : List ℕ) (first : Given L) (c : Core) (now : Given L) where
-  pub wholly : IsAllWritten written l o head first c now → Wholly written (text l o) head c.arbiter.records first now
+module _ (l : Code Origin PlainSet) (o : PlainOptions) (head : List ℕ) (first : PlainOutlets) (c : Core) (now : PlainOutlets) where
+  pub wholly : IsAllWritten l o head first c now → Wholly (text l o) head c.arbiter.records first.out now.out first.log now.log
   wholly w =
       record {
-        prints = subst (λ (t : Option (List ℕ)). IsSomeAnd t (λ v. Appends first.printed v now.printed)) (sym w.text_is) (w.written_all).prints;
+        prints = subst (λ (t : Option (List ℕ)). IsSomeAnd t (λ v. Appends first.out.written v now.out.written)) (sym w.text_is) (w.written_all).prints;
         logs = (w.written_all).logs;
       }
 
-  pub partly : IsFrontWritten written l o head first c now → Partly written (text l o) head c.arbiter.records first now
+  pub partly : IsFrontWritten l o head first c now → Partly (text l o) head c.arbiter.records first.out now.out first.log now.log
   partly w =
       record {
-        prints = front_text l o w.front w.later c.arbiter.records w.lines first.printed now.printed (text l o c.arbiter.records) refl w.story w.is_front (w.part).comes (w.part).prints;
-        logs = log_front_longer written first.log now.log (head ++ records_text w.front) (records_text w.later) (head ++ records_text c.arbiter.records)
+        prints = front_text l o w.front w.later c.arbiter.records w.lines first.out.written now.out.written (text l o c.arbiter.records) refl w.story w.is_front (w.part).comes (w.part).prints;
+        logs = log_front_longer first.log now.log (head ++ records_text w.front) (records_text w.later) (head ++ records_text c.arbiter.records)
             (ap (λ (es : List Record). head ++ records_text es) (sym w.is_front) ∙ ap (λ (t : List ℕ). head ++ t) (records_text-append w.front w.later) ∙ sym (append_assoc head (records_text w.front) (records_text w.later))) (w.part).logs;
       }
 
-  pub behind_front : IsFrontWritten written l o head first c now → PrintsBehind written (text l o) head c.arbiter.records first.printed now.printed first.log now.log
-  behind_front w = behind_longer written (text l o) head w.front w.later c.arbiter.records first.printed now.printed first.log now.log w.is_front (w.part).behind
+  pub behind_front : IsFrontWritten l o head first c now → PrintsBehind (text l o) head c.arbiter.records first.out.written now.out.written first.log now.log
+  behind_front w = behind_longer (text l o) head w.front w.later c.arbiter.records first.out.written now.out.written first.log now.log w.is_front (w.part).behind
 
-  pub text_whole : IsAllWritten written l o head first c now → IsSome (text l o c.arbiter.records)
+  pub text_whole : IsAllWritten l o head first c now → IsSome (text l o c.arbiter.records)
   text_whole w = subst (λ (t : Option (List ℕ)). IsSome t) (sym w.text_is) refl
 
 -- ---- what was heard
@@ -154,39 +157,38 @@ pub told_of : (l : Code Origin PlainSet) (o : PlainOptions) (records : List Reco
 unfolding text
 told_of l o records h = told_at (story l o records) (story l o records) refl h
 
-module _ {L : Type 0} (written : L → Option (List ℕ)) (l : Code Origin PlainSet) (o : PlainOptions) (head : List ℕ) (first : Given L) (c : Core) (now : Given L) where
-  pub story_ended : (e : Ending) → IsEnded written l o head first c now e → IsSome (text l o c.arbiter.records)
-  story_ended (ending.Verdict v) i = text_whole written l o head first c now i.1
-  story_ended (ending.Read j) i = text_whole written l o head first c now i.1
+module _ (l : Code Origin PlainSet) (o : PlainOptions) (head : List ℕ) (first : PlainOutlets) (c : Core) (now : PlainOutlets) where
+  pub story_ended : (e : Ending) → IsEnded l o head first c now e → IsSome (text l o c.arbiter.records)
+  story_ended (ending.Verdict v) i = text_whole l o head first c now i.1
+  story_ended (ending.Read j) i = text_whole l o head first c now i.1
   story_ended ending.Write i = i.story
   story_ended ending.LogWrite i = i.story
   story_ended ending.Memory i = i.story
 
-  pub behind_ended : (e : Ending) → IsEnded written l o head first c now e → PrintsBehind written (text l o) head c.arbiter.records first.printed now.printed first.log now.log
+  pub behind_ended : (e : Ending) → IsEnded l o head first c now e → PrintsBehind (text l o) head c.arbiter.records first.out.written now.out.written first.log now.log
   behind_ended (ending.Verdict v) i = (i.1).behind
   behind_ended (ending.Read j) i = (i.1).behind
-  behind_ended ending.Write i = behind_front written l o head first c now i
-  behind_ended ending.LogWrite i = behind_front written l o head first c now i
-  behind_ended ending.Memory i = behind_front written l o head first c now i
+  behind_ended ending.Write i = behind_front l o head first c now i
+  behind_ended ending.LogWrite i = behind_front l o head first c now i
+  behind_ended ending.Memory i = behind_front l o head first c now i
 
-  module _ {K S : Type 0} (g : Ghosts L) (k : Ghosts K) (out_old out_new : K) (left : S → Option (List ℕ)) (source_faults : S → ℕ) (sources back : List S)
+  module _ {S : Type 0} (left : S → Option (List ℕ)) (source_faults : S → ℕ) (sources back : List S)
       (came : AreBack left source_faults sources back c.arbiter.records) (many : length sources ≡ o.injectors) where
-    pub ends_as : (e : Ending) → IsEnded written l o head first c now e → IfSome (ended_fault e) (IsCaused k g out_old out_new first.log now.log) →
+    pub ends_as : (e : Ending) → IsEnded l o head first c now e → IfSome (ended_fault e) (IsCaused first now) →
         IfSome (broke_at e) (HasBroken left source_faults sources back c.arbiter.records) →
-        EndsAs written g.faults k.faults l o head out_old out_new first now left source_faults sources back c.arbiter.records e
+        EndsAs l o head first.out now.out first.log now.log left source_faults sources back c.arbiter.records e
     ends_as (ending.Verdict v) i k b =
-        let t = told_of l o c.arbiter.records (text_whole written l o head first c now i.1) in
-        (i.0, wholly written l o head first c now i.1, λ waits q. whole_at left source_faults sources back c.arbiter.records came l o t.0 v many t.1 i.0 waits q)
-    ends_as (ending.Read j) i k b = (i.0, wholly written l o head first c now i.1, broke_at_source left source_faults sources back c.arbiter.records came j b, i.2)
-    ends_as ending.Write i k b = (partly written l o head first c now i, k)
-    ends_as ending.LogWrite i k b = (partly written l o head first c now i, k)
-    ends_as ending.Memory i k b = partly written l o head first c now i
+        let t = told_of l o c.arbiter.records (text_whole l o head first c now i.1) in
+        (i.0, wholly l o head first c now i.1, λ waits q. whole_at left source_faults sources back c.arbiter.records came l o t.0 v many t.1 i.0 waits q)
+    ends_as (ending.Read j) i k b = (i.0, wholly l o head first c now i.1, broke_at_source left source_faults sources back c.arbiter.records came j b, i.2)
+    ends_as ending.Write i k b = (partly l o head first c now i, k)
+    ends_as ending.LogWrite i k b = (partly l o head first c now i, k)
+    ends_as ending.Memory i k b = partly l o head first c now i
 
 -- what is known of a run that was served from its beginning
-pub ended_run : {K L : Type 0} {written : L → Option (List ℕ)} {before after : Core} {w : Waiting} {end : Ending} (out : K → Option (List ℕ)) (program : PlainProgram) (h : PlainHeader) (x y : K) (a b : Option L) →
-    Begins written program h a before w → EndsServing written before (given out x a) w after (given out y b) end →
-    IsEnded written (code_of program h.options) h.options (header_text Second h) (given out x a) after (given out y b) end
-ended_run out program h x y a b s e = e.ends (code_of program h.options) h.options (header_text Second h) (given out x a) (s (out x))
+pub ended_run : {t : ServedRun} {c : Core} {w : Telling} {first : PlainOutlets} {end : Ending} (program : PlainProgram) (h : PlainHeader) →
+    Begins program h first c w → EndsServing (run_at c first w) t end → IsEnded (code_of program h.options) h.options (header_text Second h) first t.core t.outlets end
+ended_run program h s e = e.ends (code_of program h.options) h.options (header_text Second h) _ s
 
 -- ---- where nothing began
 
@@ -198,9 +200,9 @@ nothing_of : (t : Option (List ℕ)) (a : Option (List ℕ)) → IsSome t → Is
 nothing_of None a h = absurd (let z : ⊥ = cc in z)
 nothing_of (Some v) a h = ([], v, refl, appends_nothing a)
 
-pub nothing_written : {L : Type 0} (written : L → Option (List ℕ)) (l : Code Origin PlainSet) (o : PlainOptions) (head : List ℕ) (first : Given L) → Partly written (text l o) head [] first first
-nothing_written written l o head first =
-    record { prints = nothing_of (text l o []) first.printed (text_first l o); logs = log_nothing written first.log (head ++ records_text []) }
+pub nothing_written : (l : Code Origin PlainSet) (o : PlainOptions) (head : List ℕ) (first : PlainOutlets) → Partly (text l o) head [] first.out first.out first.log first.log
+nothing_written l o head first =
+    record { prints = nothing_of (text l o []) first.out.written (text_first l o); logs = log_nothing first.log (head ++ records_text []) }
 
 abbrev all_of : Option (List ℕ) → List ℕ
 all_of None = []

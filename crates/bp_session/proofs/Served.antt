@@ -18,12 +18,15 @@ use Rattle.bp_arbiter.specs.Arbiters.{PlainArbiter, Tells, code_in, options_in, 
 use Rattle.bp_arbiter.proofs.Told.{stands_tells}
 use Rattle.bp_core.specs.declared.stepping.Core.{Core}
 use Rattle.bp_core.specs.Cores.{KeepsProgram}
-use Rattle.bp_told.specs.Told.{Given, Waiting, ComesOf, IsTold}
+use Rattle.bp_told.specs.Outlets.{PlainOutlets}
+use Rattle.bp_told.specs.declared.telling.Telling.{Telling}
+use Rattle.bp_told.specs.Told.{ComesOf, IsTold}
 use Rattle.bp_told.specs.declared.fault.RunFault.{RunFault}
 use Rattle.bp_told.proofs.Pieces.{lines_text-append}
 use Rattle.bp_told.proofs.Told.{told_broken}
 use Rattle.bp_turns.specs.Settled.{IsHere, IsSomewhereHere, EndsWith, ClosesCore, SettlesCore, CutsTurns}
 use Rattle.bp_turns.proofs.Arbiters.{same_code, recounts_at}
+use Rattle.bp_session.specs.inner.Services.{ServedRun, run_at}
 use Rattle.bp_session.specs.inner.Serving.{IsServing, IsReady, IsBrokenOff, ServesOn, BreaksServing}
 
 -- ---- the text
@@ -58,13 +61,13 @@ told_longer before after more k h e = ap (λ (rs : List Record). take k rs) e �
 few_told : (k : ℕ) (rs : List Record) → k ≡ length (take k rs) → k ≤ length rs
 few_told k rs h = let few = length-take k rs in omega (arith, h, few)
 
-module _ {L : Type 0} (written : L → Option (List ℕ)) (l : Code Origin PlainSet) (o : PlainOptions) (head : List ℕ) (first now : Given L) (w : Waiting) where
-  pub kept_few : (c : Core) → IsServing written l o head first c now w → w.kept ≤ length c.arbiter.records
+module _ (l : Code Origin PlainSet) (o : PlainOptions) (head : List ℕ) (first now : PlainOutlets) (w : Telling) where
+  pub kept_few : (c : Core) → IsServing l o head first (run_at c now w) → w.kept ≤ length c.arbiter.records
   kept_few c s = few_told w.kept c.arbiter.records (s.told).kept
 
   -- the core went on, and nothing was told
   pub serving_on : (a b : Core) (more : List Record) → KeepsProgram a.arbiter b.arbiter → b.arbiter.records ≡ a.arbiter.records ++ more →
-      ((taken : List Line) (m : Moment Origin) → IsHere a taken m → (n : Moment Origin) × IsHere b taken n) → IsServing written l o head first a now w → IsServing written l o head first b now w
+      ((taken : List Line) (m : Moment Origin) → IsHere a taken m → (n : Moment Origin) × IsHere b taken n) → IsServing l o head first (run_at a now w) → IsServing l o head first (run_at b now w)
   serving_on a b more p e on s =
       let r = on s.taken s.moment s.here in
       record {
@@ -73,12 +76,12 @@ module _ {L : Type 0} (written : L → Option (List ℕ)) (l : Code Origin Plain
         taken = s.taken;
         moment = r.0;
         here = r.1;
-        told = subst (λ (rs : List Record). IsTold L written (text l o) head first now w rs s.taken) (sym (told_longer a.arbiter.records b.arbiter.records more w.kept (kept_few a s) e)) s.told;
+        told = subst (λ (rs : List Record). IsTold (text l o) head first now w rs s.taken) (sym (told_longer a.arbiter.records b.arbiter.records more w.kept (kept_few a s) e)) s.told;
       }
 
   -- memory ran out, and nothing was told
   pub cut_off : (a b : Core) (more : List Record) (fault : RunFault) → KeepsProgram a.arbiter b.arbiter → b.arbiter.records ≡ a.arbiter.records ++ more →
-      ((taken : List Line) (m : Moment Origin) → IsHere a taken m → Tells b.arbiter taken) → IsServing written l o head first a now w → IsBrokenOff written l o head first b now w fault
+      ((taken : List Line) (m : Moment Origin) → IsHere a taken m → Tells b.arbiter taken) → IsServing l o head first (run_at a now w) → IsBrokenOff l o head first (run_at b now w) fault
   cut_off a b more fault p e t s =
       let rs = a.arbiter.records in
       record {
@@ -87,11 +90,11 @@ module _ {L : Type 0} (written : L → Option (List ℕ)) (l : Code Origin Plain
         later = drop w.kept rs ++ more;
         lines = s.taken;
         is_front = sym (append_assoc (take w.kept rs) (drop w.kept rs) more) ∙ ap (λ (es : List Record). es ++ more) (take-append-drop w.kept rs) ∙ sym e;
-        broken = told_broken written (text l o) head first now w (take w.kept rs) s.taken fault s.told;
+        broken = told_broken (text l o) head first now w (take w.kept rs) s.taken fault s.told;
       }
 
   -- serving may break off anywhere
-  pub stop_here : (c : Core) (fault : RunFault) → IsServing written l o head first c now w → IsBrokenOff written l o head first c now w fault
+  pub stop_here : (c : Core) (fault : RunFault) → IsServing l o head first (run_at c now w) → IsBrokenOff l o head first (run_at c now w) fault
   stop_here c fault s = cut_off c c [] fault (record { program = refl; options = refl }) (sym (append-nil c.arbiter.records)) (λ taken m h. here_tells c taken m h) s
 
 -- ---- settling
@@ -126,24 +129,23 @@ cut_more a b taken m h s =
 
 -- ---- what stands for whoever serves
 
-pub ready_on : {L : Type 0} {written : L → Option (List ℕ)} {a b : Core} {old new : Given L} {w v : Waiting} → ServesOn written a old w b new v → IsReady written a old w → IsReady written b new v
-ready_on s r = record { code = r.code; options = r.options; head = r.head; first = r.first; serving = s r.code r.options r.head r.first r.serving }
+pub ready_on : {s t : ServedRun} → ServesOn s t → IsReady s → IsReady t
+ready_on f r = record { code = r.code; options = r.options; head = r.head; first = r.first; serving = f r.code r.options r.head r.first r.serving }
 
-module _ {L : Type 0} (written : L → Option (List ℕ)) where
-  pub ready_somewhere : (c : Core) (now : Given L) (w : Waiting) → IsReady written c now w → IsSomewhereHere c
-  ready_somewhere c now w r = record { taken = (r.serving).taken; moment = (r.serving).moment; here = (r.serving).here }
+pub ready_somewhere : (c : Core) (now : PlainOutlets) (w : Telling) → IsReady (run_at c now w) → IsSomewhereHere c
+ready_somewhere c now w r = record { taken = (r.serving).taken; moment = (r.serving).moment; here = (r.serving).here }
 
-  pub ready_few : (c : Core) (now : Given L) (w : Waiting) → IsReady written c now w → w.kept ≤ length c.arbiter.records
-  ready_few c now w r = kept_few written r.code r.options r.head r.first now w c r.serving
+pub ready_few : (c : Core) (now : PlainOutlets) (w : Telling) → IsReady (run_at c now w) → w.kept ≤ length c.arbiter.records
+ready_few c now w r = kept_few r.code r.options r.head r.first now w c r.serving
 
-  -- turns lead on
-  pub settle_serves : (a b : Core) (now : Given L) (w : Waiting) → KeepsProgram a.arbiter b.arbiter → SettlesCore a b → ServesOn written a now w b now w
-  settle_serves a b now w p t l o head first s =
-      let m = settled_more a b s.taken s.moment s.here t in
-      serving_on written l o head first now w a b m.more p m.records (λ taken n h. let x = t taken n h in (x.next, x.here)) s
+-- turns lead on
+pub settle_serves : (a b : Core) (now : PlainOutlets) (w : Telling) → KeepsProgram a.arbiter b.arbiter → SettlesCore a b → ServesOn (run_at a now w) (run_at b now w)
+settle_serves a b now w p t l o head first s =
+    let m = settled_more a b s.taken s.moment s.here t in
+    serving_on l o head first now w a b m.more p m.records (λ taken n h. let x = t taken n h in (x.next, x.here)) s
 
-  -- memory ran out in a turn
-  pub settle_breaks : (a b : Core) (now : Given L) (w : Waiting) (fault : RunFault) → KeepsProgram a.arbiter b.arbiter → CutsTurns a b → BreaksServing written a now w b now w fault
-  settle_breaks a b now w fault p t l o head first s =
-      let m = cut_more a b s.taken s.moment s.here t in
-      cut_off written l o head first now w a b m.more fault p m.records (λ taken n h. (t taken n h).tells) s
+-- memory ran out in a turn
+pub settle_breaks : (a b : Core) (now : PlainOutlets) (w : Telling) (fault : RunFault) → KeepsProgram a.arbiter b.arbiter → CutsTurns a b → BreaksServing (run_at a now w) (run_at b now w) fault
+settle_breaks a b now w fault p t l o head first s =
+    let m = cut_more a b s.taken s.moment s.here t in
+    cut_off l o head first now w a b m.more fault p m.records (λ taken n h. (t taken n h).tells) s

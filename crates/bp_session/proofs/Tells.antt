@@ -19,14 +19,17 @@ use Rattle.bp_arbiter.specs.Arbiters.{PlainArbiter, StandsFor, Recounts, code_in
 use Rattle.bp_core.specs.declared.stepping.Core.{Core}
 use Rattle.bp_core.specs.Cores.{IsCoreAt, KeepsProgram}
 use Rattle.bp_core.specs.Moments.{IsAt, AreBegun, lent_at_once}
-use Rattle.bp_told.specs.Told.{Given, Waiting, ComesOf, IsTold, TellsOn, BreaksOff, WritesAll, WritesPart}
+use Rattle.bp_told.specs.Outlets.{PlainOutlets}
+use Rattle.bp_told.specs.declared.telling.Telling.{Telling}
+use Rattle.bp_told.specs.Told.{ComesOf, IsTold, TellsOn, BreaksOff, WritesAll, WritesPart}
 use Rattle.bp_told.specs.declared.fault.RunFault.{RunFault}
 use Rattle.bp_told.specs.declared.fault.RunFault.TheVariants.{Memory}
 use Rattle.bp_told.proofs.Pieces.{take_whole}
 use Rattle.bp_told.proofs.Told.{told_broken}
 use Rattle.bp_turns.specs.Settled.{IsHere}
 use Rattle.bp_turns.proofs.Arbiters.{same_code, recounts_at}
-use Rattle.bp_session.specs.inner.Serving.{IsServing, ServesOn, TellsAll, BreaksServing, StillTold, PartTold}
+use Rattle.bp_session.specs.inner.Services.{ServedRun, run_at}
+use Rattle.bp_session.specs.inner.Serving.{IsServing, ServesOn, TellsAll, BreaksServing, StillTold, PartTold, WritesTold}
 use Rattle.bp_session.proofs.Served.{text_at, some_text, lines_come, here_tells}
 
 -- ---- where nothing is to be run
@@ -89,17 +92,17 @@ taken_of old new lines p r l j f =
 kept_then : (rs all : List Record) (k : ℕ) → k ≡ length rs → rs ≡ all → take k all ≡ rs
 kept_then rs all k e h = ap (λ (n : ℕ). take n all) e ∙ take_whole rs [] all (append-nil rs ∙ h)
 
-module _ {L : Type 0} (written : L → Option (List ℕ)) (a b : Core) (lines : List Line) (t : IsTaken a b lines) (old new : Given L) (before after : Waiting) where
-  come : (l : Code Origin PlainSet) (o : PlainOptions) (head : List ℕ) (first : Given L) (s : IsServing written l o head first a old before) → ComesOf (text l o) a.arbiter.records (s.taken ++ lines)
+module _ (a b : Core) (lines : List Line) (t : IsTaken a b lines) (old new : PlainOutlets) (before after : Telling) where
+  come : (l : Code Origin PlainSet) (o : PlainOptions) (head : List ℕ) (first : PlainOutlets) (s : IsServing l o head first (run_at a old before)) → ComesOf (text l o) a.arbiter.records (s.taken ++ lines)
   come l o head first s =
       subst (λ (ls : List Line). ComesOf (text l o) a.arbiter.records (s.taken ++ ls)) (sym t.lines_are)
       (lines_come l o a.arbiter s.taken s.code s.options (here_tells a s.taken s.moment s.here))
 
-  told_so : (l : Code Origin PlainSet) (o : PlainOptions) (head : List ℕ) (first : Given L) (s : IsServing written l o head first a old before) → TellsOn written a.arbiter.records lines old before new after →
-      IsTold L written (text l o) head first new after a.arbiter.records (s.taken ++ lines)
+  told_so : (l : Code Origin PlainSet) (o : PlainOptions) (head : List ℕ) (first : PlainOutlets) (s : IsServing l o head first (run_at a old before)) → TellsOn a.arbiter.records lines old before new after →
+      IsTold (text l o) head first new after a.arbiter.records (s.taken ++ lines)
   told_so l o head first s on = on (text l o) head first s.taken s.told (come l o head first s)
 
-  pub tell_serves : after.kept ≡ length a.arbiter.records → TellsOn written a.arbiter.records lines old before new after → ServesOn written a old before b new after
+  pub tell_serves : after.kept ≡ length a.arbiter.records → TellsOn a.arbiter.records lines old before new after → ServesOn (run_at a old before) (run_at b new after)
   tell_serves k on l o head first s =
       record {
         code = same_code a.arbiter b.arbiter (t.program).program (t.program).options ∙ s.code;
@@ -107,13 +110,13 @@ module _ {L : Type 0} (written : L → Option (List ℕ)) (a b : Core) (lines : 
         taken = s.taken ++ lines;
         moment = s.moment;
         here = t.at s.taken s.moment s.here;
-        told = subst (λ (rs : List Record). IsTold L written (text l o) head first new after rs (s.taken ++ lines)) (sym (kept_then a.arbiter.records b.arbiter.records after.kept k (sym t.records))) (told_so l o head first s on);
+        told = subst (λ (rs : List Record). IsTold (text l o) head first new after rs (s.taken ++ lines)) (sym (kept_then a.arbiter.records b.arbiter.records after.kept k (sym t.records))) (told_so l o head first s on);
       }
 
   -- where nothing is to be run, the whole text is told
   pub tell_all : is_idle a.arbiter.phase ≡ true →
       ((taken : List Line) (p : Pair Origin) → StandsFor a.arbiter [] taken p → is_idle a.arbiter.phase ≡ true → (c : Configuration Origin) → Recounts a.arbiter c → c.stand.lines ≡ taken ++ (stand_in a.arbiter).lines) →
-      TellsOn written a.arbiter.records lines old before new after → TellsAll written a old before b new after
+      TellsOn a.arbiter.records lines old before new after → TellsAll (run_at a old before) (run_at b new after)
   tell_all i exact on l o head first s =
       let at = (s.here).at in
       let stands = alone a.arbiter a.jobs.items s.taken s.moment at.at i in
@@ -122,10 +125,10 @@ module _ {L : Type 0} (written : L → Option (List ℕ)) (a b : Core) (lines : 
         lines = s.taken ++ lines;
         text_is = subst (λ (rs : List Record). text l o rs ≡ Some (lines_text (s.taken ++ lines))) (sym t.records)
             (text_at l o a.arbiter.records stands.told (recounts_at l o a.arbiter stands.told s.code s.options stands.story) ∙ ap (λ (ls : List Line). Some (lines_text ls)) whole);
-        told = subst (λ (rs : List Record). IsTold L written (text l o) head first new after rs (s.taken ++ lines)) (sym t.records) (told_so l o head first s on);
+        told = subst (λ (rs : List Record). IsTold (text l o) head first new after rs (s.taken ++ lines)) (sym t.records) (told_so l o head first s on);
       }
 
-  pub tell_breaks : (fault : RunFault) → BreaksOff written a.arbiter.records lines old before new after fault → BreaksServing written a old before b new after fault
+  pub tell_breaks : (fault : RunFault) → BreaksOff a.arbiter.records lines old before new after fault → BreaksServing (run_at a old before) (run_at b new after) fault
   tell_breaks fault off l o head first s =
       let rs = a.arbiter.records in
       record {
@@ -138,27 +141,27 @@ module _ {L : Type 0} (written : L → Option (List ℕ)) (a b : Core) (lines : 
       }
 
   module _ (rs : List Record) (ls : List Line) (e : rs ≡ a.arbiter.records) (f : ls ≡ lines) where
-    on_these : TellsOn written rs ls old before new after → TellsOn written a.arbiter.records lines old before new after
-    on_these h = subst (λ (xs : List Record). TellsOn written xs lines old before new after) e (subst (λ (ys : List Line). TellsOn written rs ys old before new after) f h)
+    on_these : TellsOn rs ls old before new after → TellsOn a.arbiter.records lines old before new after
+    on_these h = subst (λ (xs : List Record). TellsOn xs lines old before new after) e (subst (λ (ys : List Line). TellsOn rs ys old before new after) f h)
 
-    pub these_serve : after.kept ≡ length rs → TellsOn written rs ls old before new after → ServesOn written a old before b new after
+    pub these_serve : after.kept ≡ length rs → TellsOn rs ls old before new after → ServesOn (run_at a old before) (run_at b new after)
     these_serve k h = tell_serves (k ∙ ap length e) (on_these h)
 
     pub these_all : is_idle a.arbiter.phase ≡ true →
         ((taken : List Line) (p : Pair Origin) → StandsFor a.arbiter [] taken p → is_idle a.arbiter.phase ≡ true → (c : Configuration Origin) → Recounts a.arbiter c → c.stand.lines ≡ taken ++ (stand_in a.arbiter).lines) →
-        TellsOn written rs ls old before new after → TellsAll written a old before b new after
+        TellsOn rs ls old before new after → TellsAll (run_at a old before) (run_at b new after)
     these_all i exact h = tell_all i exact (on_these h)
 
-    pub these_break : (fault : RunFault) → BreaksOff written rs ls old before new after fault → BreaksServing written a old before b new after fault
+    pub these_break : (fault : RunFault) → BreaksOff rs ls old before new after fault → BreaksServing (run_at a old before) (run_at b new after) fault
     these_break fault h =
-        tell_breaks fault (subst (λ (xs : List Record). BreaksOff written xs lines old before new after fault) e (subst (λ (ys : List Line). BreaksOff written rs ys old before new after fault) f h))
+        tell_breaks fault (subst (λ (xs : List Record). BreaksOff xs lines old before new after fault) e (subst (λ (ys : List Line). BreaksOff rs ys old before new after fault) f h))
 
 -- ---- writing
 
-module _ {L : Type 0} (written : L → Option (List ℕ)) (old new : Given L) (before after : Waiting) where
-  pub write_still : WritesAll written old before new after → StillTold written old before new after
-  write_still w text head first records lines t = (w text head first records lines t).0
+module _ (s t : ServedRun) where
+  pub write_still : WritesTold s t → StillTold s t
+  write_still w text head first records lines h = (w text head first records lines h).0
 
-  pub write_part : WritesPart written old before new → PartTold written old before new
-  write_part w text head first records lines t =
-      w text head first records lines Memory (λ e. let f : ⊥ = cc in f) (told_broken written text head first old before records lines Memory t)
+  pub write_part : WritesPart s.outlets s.telling t.outlets → PartTold s t
+  write_part w text head first records lines h =
+      w text head first records lines Memory (λ e. let f : ⊥ = cc in f) (told_broken text head first s.outlets s.telling records lines Memory h)

@@ -3,6 +3,7 @@ use Rattle.std.specs.Prelude.{◌≡◌, ◌≤◌, ℕ, ◌<◌, true, false, L
 use Rattle.js_value.specs.Value.{PlainSet}
 use Rattle.js_meaning.specs.Bodies.{Origin}
 use Rattle.bp_base.specs.Counts.{Rose}
+use Rattle.bp_base.specs.Outside.{PlainSink}
 use Rattle.bp_base.specs.Pieces.{Appends, AppendsFront}
 use Rattle.bp_log.specs.Logs.{records_text}
 use Rattle.bp_log.specs.Options.{PlainOptions}
@@ -16,7 +17,6 @@ use Rattle.bp_run.specs.Text.{text}
 use Rattle.bp_steps.specs.Merging.{items_by}
 use Rattle.bp_told.specs.Logging.{LogGets, LogGetsFront, LogFails}
 use Rattle.bp_told.specs.Order.{Texts}
-use Rattle.bp_told.specs.Told.{Given}
 use Rattle.bp_session.specs.Heard.{IsHeardToFault, EachHeardWhole}
 use Rattle.bp_session.specs.declared.report.Ending.{Ending}
 use Rattle.bp_session.specs.declared.report.Ending.TheVariants.{Verdict, Read, Write, LogWrite, Memory}
@@ -26,17 +26,17 @@ abbrev pub HasNoVerdict : Code Origin PlainSet → PlainOptions → List Record 
 HasNoVerdict l o records =
     option_map (λ (c : Configuration Origin). is_over c) (story l o records) ≡ Some false
 
-module _ {L : Type 0} (written : L → Option (List ℕ)) (text : Texts) (head : List ℕ)
-    (records : List Record) (old new : Given L) where
+module _ (text : Texts) (head : List ℕ) (records : List Record) (out_old out_new : PlainSink)
+    (log_old log_new : Option PlainSink) where
   -- the whole text and the whole log of these records were written
   pub record Wholly : Type 0 where
-    pub prints : IsSomeAnd (text records) (λ t. Appends old.printed t new.printed)
-    pub logs : LogGets written old.log (head ++ records_text records) new.log
+    pub prints : IsSomeAnd (text records) (λ t. Appends out_old.written t out_new.written)
+    pub logs : LogGets log_old (head ++ records_text records) log_new
 
   -- a front of the text and a front of the log of these records were
   pub record Partly : Type 0 where
-    pub prints : IsSomeAnd (text records) (λ t. AppendsFront old.printed t new.printed)
-    pub logs : LogGetsFront written old.log (head ++ records_text records) new.log
+    pub prints : IsSomeAnd (text records) (λ t. AppendsFront out_old.written t out_new.written)
+    pub logs : LogGetsFront log_old (head ++ records_text records) log_new
 
 -- no source failed: the count of each is what it was
 abbrev pub NoneFailed : {S : Type 0} → (S → ℕ) → List S → List S → Type 0
@@ -61,22 +61,20 @@ module _ {S : Type 0} (left : S → Option (List ℕ)) (faults : S → ℕ) (sou
     pub counts : (k : ℕ) (d : S) → k < length sources
         → faults (slice_index_or sources k d) ≤ faults (slice_index_or back k d)
 
-module _ {K L S : Type 0} (written : L → Option (List ℕ)) (log_faults : L → ℕ) (faults : K → ℕ)
-    (l : Code Origin PlainSet) (o : PlainOptions) (head : List ℕ) (out_old out_new : K)
-    (old new : Given L) (left : S → Option (List ℕ)) (broke : S → ℕ) (sources back : List S)
+module _ {S : Type 0} (l : Code Origin PlainSet) (o : PlainOptions) (head : List ℕ)
+    (out_old out_new : PlainSink)
+    (log_old log_new : Option PlainSink) (left : S → Option (List ℕ)) (faults : S → ℕ) (sources back : List S)
     (records : List Record) where
   -- What each ending says. Where the run waits for its injectors and comes to be quiet, each of them was
   -- heard to its end and none failed; where one failed, there was no verdict before.
   abbrev pub EndsAs : Ending → Type 0
   EndsAs (Verdict v) =
-      (verdict_of records ≡ Some v) × Wholly written (text l o) head records old new
+      (verdict_of records ≡ Some v) × Wholly (text l o) head records out_old out_new log_old log_new
       × (o.wait ≡ true → IsQuiet v
-      → EachHeardWhole left sources back records × NoneFailed broke sources back)
+      → EachHeardWhole left sources back records × NoneFailed faults sources back)
   EndsAs (Read j) =
-      (is_complete records ≡ false) × Wholly written (text l o) head records old new
-      × BrokeAt left broke sources back records j × HasNoVerdict l o records
-  EndsAs Write =
-      Partly written (text l o) head records old new × Rose (faults out_old) (faults out_new)
-  EndsAs LogWrite =
-      Partly written (text l o) head records old new × LogFails log_faults old.log new.log
-  EndsAs Memory = Partly written (text l o) head records old new
+      (is_complete records ≡ false) × Wholly (text l o) head records out_old out_new log_old log_new
+      × BrokeAt left faults sources back records j × HasNoVerdict l o records
+  EndsAs Write = Partly (text l o) head records out_old out_new log_old log_new × Rose out_old.faults out_new.faults
+  EndsAs LogWrite = Partly (text l o) head records out_old out_new log_old log_new × LogFails log_old log_new
+  EndsAs Memory = Partly (text l o) head records out_old out_new log_old log_new

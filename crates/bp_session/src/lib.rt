@@ -3,20 +3,19 @@
 #![tactic(auto)]
 
 mod calling;
+mod ending;
 mod hearing;
 mod laws;
-mod lent;
-mod outlets;
 mod pacing;
 mod places;
 mod reading;
 mod report;
 mod running;
 mod scoped;
+mod service;
 mod serving;
 mod showing;
 mod stop;
-mod telling;
 mod turning;
 mod written;
 

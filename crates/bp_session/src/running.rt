@@ -1,5 +1,6 @@
 //! Running a program while injectors bring events.
-ghost use Rattle.std.specs.Prelude.{◌≡◌, ◌≤◌, ◌<◌, ◌^◌, [], false, length, Some, IsSome, IfOk, IfSome};
+ghost use Rattle.std.specs.Prelude.{◌≡◌, ◌≤◌, ◌<◌, ◌^◌, [], false, length, Some, IsSome, IfOk, IfSome, option_map};
+ghost use Rattle.bp_base.specs.Outside.{Lasts};
 ghost use Rattle.bp_log.specs.Logs.{header_text};
 ghost use Rattle.bp_log.specs.declared.version.Version.TheVariants.{Second};
 ghost use Rattle.bp_log.specs.Options.{AreOptions};
@@ -7,28 +8,27 @@ ghost use Rattle.bp_steps.specs.Schedules.{schedule_of};
 ghost use Rattle.bp_steps.specs.Steps.{made_by};
 ghost use Rattle.bp_code.specs.Code.{code_of, text_of};
 ghost use Rattle.bp_code.specs.Nodes.{nodes_of};
-ghost use Rattle.bp_told.specs.Logging.{LogStays};
+ghost use Rattle.bp_told.specs.Logging.{OfLog};
 ghost use Rattle.bp_told.specs.Order.{PrintsBehind};
-ghost use Rattle.bp_told.specs.Told.{given};
 ghost use Rattle.bp_session.specs.Heard.{EachHeard};
 ghost use Rattle.bp_session.specs.inner.Places.{HasRoom};
 ghost use Rattle.bp_session.specs.inner.Readings.{AreBack, HasBroken};
-ghost use Rattle.bp_session.specs.inner.Lending.{Begins};
+ghost use Rattle.bp_session.specs.inner.Lending.{Begins, IsServed};
+ghost use Rattle.bp_session.specs.inner.Services.{run_of};
 ghost use Rattle.bp_session.specs.Reports.{ComeBack, EndsAs};
-ghost use Rattle.bp_session.specs.inner.Outlets.{ended_fault, WritesOn};
-ghost use Rattle.bp_session.specs.inner.Serving.{IsReady, EndsServing, broke_at};
+ghost use Rattle.bp_session.specs.inner.Serving.{IsReady, broke_at};
 
-use crate::lent::{Lent, Parts, serve_alone};
 use crate::pacing::Pace;
 use crate::places::Places;
 use crate::report::{Ending, Report};
 use crate::scoped::in_scope;
+use crate::service::{Served, Service};
 use crate::showing::{Shows, Silent};
 use bp_base::{Memory, Sink, Source};
 use bp_core::Core;
 use bp_core::laws::stories_have_legal_schedules;
 use bp_log::{Header, Parallelism, Records};
-use bp_told::Telling;
+use bp_told::{Outlets, Telling};
 use js_program::Program;
 use std::alloc::Global;
 use std::sync::Wait;
@@ -43,22 +43,21 @@ struct Opened<S: Source> {
 }
 
 /// Takes the memory for a session of as many injectors as the header says.
-fn begin<S: Source + Drop, L: Sink>(
+fn begin<S: Source + Drop, K: Sink, L: Sink>(
     alloc: Global,
     program: Program,
     header: &Header,
-    log: &Option<L>,
+    outlets: &Outlets<'_, '_, K, L>,
 ) -> Result<Opened<S>, Memory>
     ensures within { AreOptions header.now.options }
-    ensures serving { IfOk result (λ o. Begins L.written program header.now log.now o.core
-        o.telling) }
+    ensures serving { IfOk result (λ o. Begins program header.now outlets.now o.core o.telling) }
     ensures fresh { IfOk result (λ o. o.core.arbiter.records ≡ []) }
     ensures inside { IfOk result (λ o. o.core.out ≡ false) }
     ensures room { IfOk result (λ o. HasRoom o.places header.now.options.injectors) }
 {
     let options = header.options();
     let count = options.injectors();
-    let telling = Telling::begin(alloc, header, log)?;
+    let telling = Telling::begin(alloc, header, outlets)?;
     let core = Core::open(alloc, program, options)?;
     let places = Places::new(alloc, count as usize)?;
     Ok(Opened {
@@ -68,44 +67,32 @@ fn begin<S: Source + Drop, L: Sink>(
     })
 }
 
-/// Serves what is lent, in a scope in which each input, if there are any, has an injector.
-fn served<S: Source + Send + Drop, R: Threads + Wait + Sync, K: Sink, L: Sink, V: Shows>(
+/// Serves a run to its end, in a scope in which each input, if there are any, has an injector.
+fn serve<S: Source + Send + Drop, R: Threads + Wait + Sync, K: Sink, L: Sink, V: Shows>(
     rt: &R,
-    alloc: Global,
     places: Places<S>,
     inputs: Vec<S>,
-    parts: &mut Parts<S, V>,
-    out: &mut K,
-    log: &mut Option<L>,
+    served: &mut Served<'_, '_, K, L, S, V>,
 )
-    requires ready { IsReady L.written parts.old.core (given K.written out.old log.old)
-        parts.old.telling }
-    requires inside { parts.old.core.out ≡ false }
-    requires fresh { parts.old.core.arbiter.records ≡ [] }
+    requires ready { IsReady (run_of served.old.service) }
+    requires inside { served.old.service.core.out ≡ false }
+    requires fresh { served.old.service.core.arbiter.records ≡ [] }
     requires room { HasRoom places (length inputs.items) }
     requires few { length inputs.items < 2 ^ 32 }
-    ensures ends { EndsServing L.written parts.old.core (given K.written out.old log.old)
-        parts.old.telling parts.new.core (given K.written out.new log.new) parts.new.end }
-    ensures many { length parts.new.back.items ≡ length inputs.items }
-    ensures back { AreBack S.left S.faults inputs.items parts.new.back.items
-        parts.new.core.arbiter.records }
-    ensures broke { IfSome (broke_at parts.new.end)
-        (HasBroken S.left S.faults inputs.items parts.new.back.items
-        parts.new.core.arbiter.records) }
-    ensures writes { WritesOn K.Sink L.Sink out.old out.new log.old log.new
-        (ended_fault parts.new.end) }
+    ensures served { IsServed served.old served.new }
+    ensures many { length served.new.back.items ≡ length inputs.items }
+    ensures back { AreBack S.left S.faults inputs.items served.new.back.items
+        served.new.service.core.arbiter.records }
+    ensures broke { IfSome (broke_at served.new.end)
+        (HasBroken S.left S.faults inputs.items served.new.back.items
+        served.new.service.core.arbiter.records) }
 {
     if inputs.is_empty() {
-        serve_alone(rt, alloc, inputs, parts, out, log);
+        served.serve_alone(rt, inputs);
         return;
     }
-    let mut lent = Lent { out, log, parts };
-    in_scope::<_, S, R>(rt, alloc, places, inputs, &mut lent);
-    let Lent {
-        out: _,
-        log: _,
-        parts: _,
-    } = lent;
+    let alloc = served.service.alloc;
+    in_scope::<_, S, R>(rt, alloc, places, inputs, served);
 }
 
 /// A run with its injectors.
@@ -141,23 +128,24 @@ impl Session {
             ≡ Some result.0.records }
         ensures heard { EachHeard S.left inputs.items result.1.items result.0.records }
         ensures back { ComeBack S.left S.faults inputs.items result.1.items result.0.records }
-        ensures ends { EndsAs L.written L.faults K.faults
-            (code_of program header.now.options) header.now.options
-            (header_text Second header.now) out.old out.new (given K.written out.old log.old)
-            (given K.written out.new log.new) S.left S.faults inputs.items result.1.items
-            result.0.records result.0.end }
+        ensures ends { EndsAs (code_of program header.now.options) header.now.options
+            (header_text Second header.now) (K.told out.old) (K.told out.new)
+            (option_map L.told log.old) (option_map L.told log.new) S.left S.faults inputs.items
+            result.1.items result.0.records result.0.end }
 
         // However it ends, what was printed is of the text of records that are in the log.
-        ensures behind { PrintsBehind L.written (text_of program header.now.options)
-            (header_text Second header.now) result.0.records (K.written out.old) (K.written out.new)
-            log.old log.new }
+        ensures behind { PrintsBehind (text_of program header.now.options)
+            (header_text Second header.now) result.0.records (K.told out.old).written
+            (K.told out.new).written (option_map L.told log.old) (option_map L.told log.new) }
 
-        ensures counts { K.faults out.old ≤ K.faults out.new }
-        ensures stays { LogStays L.made_as L.faults log.old log.new }
+        ensures lasts { Lasts (K.told out.old) (K.told out.new) }
+        ensures stays { OfLog Lasts (option_map L.told log.old) (option_map L.told log.new) }
     {
         // For the proof: a law.
         stories_have_legal_schedules();
-        let Ok(opened) = begin(alloc, program, header, log) else {
+        let outlets = Outlets::new(out, log);
+        let Ok(opened) = begin(alloc, program, header, &outlets) else {
+            let (_out, _log) = outlets.into_parts();
             let report = Report {
                 end: Ending::Memory,
                 records: Records::new(Vec::new(alloc)),
@@ -169,25 +157,32 @@ impl Session {
             telling,
             places,
         } = opened;
-        let mut parts = Parts {
+        let service = Service {
+            alloc,
             core,
             telling,
+            outlets,
             parallelism,
             shows: Silent {
                 pace: Pace::new(rt),
             },
-            back: Vec::new(alloc),
-            end: Ending::Memory,
         };
-        served(rt, alloc, places, inputs, &mut parts, out, log);
-        let Parts {
+        let mut served = Served {
+            service,
+            end: Ending::Memory,
+            back: Vec::new(alloc),
+        };
+        serve(rt, places, inputs, &mut served);
+        let Served { service, end, back } = served;
+        let Service {
+            alloc: _,
             core,
             telling: _,
+            outlets,
             parallelism: _,
             shows: _,
-            back,
-            end,
-        } = parts;
+        } = service;
+        let (_out, _log) = outlets.into_parts();
         let report = Report {
             end,
             records: core.into_records(),

@@ -34,7 +34,7 @@ pub(crate) trait Serves<S: Source + Drop, R: Threads + Wait + Sync> {
     ghost back: { Self → List S };
 
     /// It is served to its end. Injectors whose threads could not be made make their turns here.
-    fn serve(&mut self, rt: &R, alloc: Global, bell: &Bell, readings: &mut Vec<Reading<S>>)
+    fn serve(&mut self, rt: &R, bell: &Bell, readings: &mut Vec<Reading<S>>)
         requires ready { ready self.old }
         requires fresh { records self.old ≡ [] }
         requires few { length readings.old.items < 2 ^ 32 }
@@ -166,7 +166,7 @@ pub(crate) fn in_scope<W: Serves<S, R>, S: Source + Send + Drop, R: Threads + Wa
                 (HasBroken S.left S.faults sources.items (W.back result.now) (W.records result.now)) }
         {
             let (mut readings, back) = start_all(rt, alloc, scope, bell, places, sources);
-            held.serve(rt, alloc, bell, &mut readings);
+            held.serve(rt, bell, &mut readings);
             bell.halt(rt);
             held.give_back(join_all(rt, readings, back));
             held

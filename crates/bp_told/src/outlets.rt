@@ -3,7 +3,7 @@ ghost use Rattle.std.specs.Prelude.{◌≡◌, [], is_some, option_map, OnOk, On
 ghost use Rattle.bp_base.specs.Outside.{Lasts};
 ghost use Rattle.bp_base.specs.Pieces.{Appends};
 ghost use Rattle.bp_told.specs.Logging.{OfLog, LogGets, LogGetsFront, LogFails};
-ghost use Rattle.bp_told.specs.Words.{GoesOn, BreaksPage, BreaksLog};
+ghost use Rattle.bp_told.specs.Words.{OutletsLast, BreaksPage, BreaksLog};
 
 use crate::RunFault;
 use crate::page::Page;
@@ -85,7 +85,7 @@ impl<'a, 'b, K: Sink, L: Sink> Outlets<'a, 'b, K, L> {
         ensures whole { OnOk result (Appends self.old.out.written page.old self.new.out.written) }
         ensures breaks { IfErr result (BreaksPage self.old page.old self.new) }
         ensures log { self.new.log ≡ self.old.log }
-        ensures goes_on { GoesOn self.old self.new }
+        ensures lasts { OutletsLast self.old self.new }
     {
         match page.write(&mut *self.out) {
             Ok(()) => Ok(()),
@@ -99,7 +99,7 @@ impl<'a, 'b, K: Sink, L: Sink> Outlets<'a, 'b, K, L> {
         ensures whole { OnOk result (LogGets self.old.log page.old self.new.log) }
         ensures breaks { IfErr result (BreaksLog self.old page.old self.new) }
         ensures out { self.new.out ≡ self.old.out }
-        ensures goes_on { GoesOn self.old self.new }
+        ensures lasts { OutletsLast self.old self.new }
     {
         match write_log(&mut *self.log, page) {
             Ok(()) => Ok(()),

@@ -1,9 +1,5 @@
 //! Text that waits to be written, so that the outside gets few and large pieces.
-<<<<<<< HEAD
 ghost use Rattle.std.specs.Prelude.{◌≡◌, ◌≤◌, ◌<◌, ◌++◌, ◌↔◌, [], length, Some, IsTrue, IfOk, OnOk, OnErr, IsErrOf};
-=======
-ghost use Rattle.std.specs.Prelude.{◌≡◌, ◌++◌, [], Some, IfOk, OnOk, OnErr, IsErrOf};
->>>>>>> 61a94771 (stack trial)
 ghost use Rattle.bp_base.specs.Counts.{Rose};
 ghost use Rattle.bp_base.specs.Outside.{Lasts, Wrote, WroteFront};
 ghost use Rattle.bp_base.specs.Pieces.{AppendsFront};
@@ -161,15 +157,11 @@ impl Page {
         lines: &[Line],
         out: &mut K,
     ) -> Result<(), PrintError>
-        ensures shows { let text = self.old ++ lines_text lines.now in
-            OnOk result (Shows (K.told out.old).written text self.new (K.told out.new).written) }
-        ensures front { let text = self.old ++ lines_text lines.now in
-<<<<<<< HEAD
-            OnErr result (ShowsFront (K.written out.old) text self.new (K.written out.new)) }
+        ensures shows { OnOk result (Shows (K.told out.old).written
+            (self.old ++ lines_text lines.now) self.new (K.told out.new).written) }
+        ensures front { OnErr result (ShowsFront (K.told out.old).written
+            (self.old ++ lines_text lines.now) self.new (K.told out.new).written) }
         ensures within { length self.old < FULL → OnOk result (length self.new < FULL) }
-=======
-            OnErr result (ShowsFront (K.told out.old).written text self.new (K.told out.new).written) }
->>>>>>> 61a94771 (stack trial)
         ensures cause { IsErrOf result PrintError.Write
             → Rose (K.told out.old).faults (K.told out.new).faults }
         ensures lasts { Lasts (K.told out.old) (K.told out.new) }

@@ -21,7 +21,7 @@ use Rattle.bp_session.specs.inner.Readings.{HasFailed, Pairs, GoesOnAs}
 use Rattle.bp_session.specs.inner.Serving.{IsReady, LeadsOn, StaysThere}
 use Rattle.bp_session.specs.declared.stop.Stop.{Stop}
 use Rattle.bp_session.specs.declared.stop.Stop.TheVariants.{Read, Broken, Unwritten}
-use Rattle.bp_told.specs.Told.{Given, Waiting}
+use Rattle.bp_session.specs.inner.Services.{ServedRun}
 use Rattle.bp_told.specs.declared.fault.RunFault.TheVariants.{Memory}
 
 -- these items came: the one that was kept, and then what was taken of the lane, in order
@@ -135,9 +135,8 @@ module _ {S : Type 0} where
 
   -- Some run is served, its jobs are not out, and what was taken of its injectors, which are few
   -- enough for their numbers, is recorded.
-  pub record CanServe {L : Type 0} (written : L → Option (List ℕ)) (c : Core) (now : Given L)
-      (w : Waiting) (readings : List (Reading S)) : Type 0 where
-    pub ready : IsReady written c now w
-    pub inside : c.out ≡ false
+  pub record CanServe (s : ServedRun) (readings : List (Reading S)) : Type 0 where
+    pub ready : IsReady s
+    pub inside : s.core.out ≡ false
     pub few : length readings < 2 ^ 32
-    pub heard : AreHeard (λ (r : Reading S). r.hearing) c.arbiter.records readings
+    pub heard : AreHeard (λ (r : Reading S). r.hearing) s.core.arbiter.records readings

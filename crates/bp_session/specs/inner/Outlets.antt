@@ -1,12 +1,13 @@
 -- The two outlets of a run, from one moment to the next.
-use Rattle.std.specs.Prelude.{Result, Ok, Err, ◌≡◌, ◌⊎◌, ◌≤◌, Option, Some, None, IfSome}
+use Rattle.std.specs.Prelude.{Result, Ok, Err, ◌⊎◌, Option, Some, None, IfSome}
 use Rattle.bp_base.specs.Counts.{Rose}
-use Rattle.bp_base.specs.declared.outside.Sink.{Ghosts}
-use Rattle.bp_told.specs.Logging.{LogFails, LogStays}
-use Rattle.bp_told.specs.Told.{Given, Waiting, given, WritesOut}
+use Rattle.bp_told.specs.Logging.{LogFails}
+use Rattle.bp_told.specs.Outlets.{PlainOutlets}
+use Rattle.bp_told.specs.Told.{WritesOut}
+use Rattle.bp_told.specs.Words.{OutletsLast, IsCaused}
 use Rattle.bp_told.specs.declared.fault.RunFault.{RunFault}
 use Rattle.bp_told.specs.declared.fault.RunFault.TheVariants as fault
-use Rattle.bp_session.specs.declared.outlets.Outlets.{Outlets}
+use Rattle.bp_told.specs.declared.telling.Telling.{Telling}
 use Rattle.bp_session.specs.declared.report.Ending.{Ending}
 use Rattle.bp_session.specs.declared.report.Ending.TheVariants.{Verdict, Read, Write, LogWrite, Memory}
 use Rattle.bp_session.specs.declared.stop.Stop.{Stop}
@@ -40,34 +41,13 @@ ended_fault Memory = Some fault.Memory
 
 -- ---- what comes of writing
 
--- what the two were given
-abbrev pub given_to : {K L : Type 0} → Ghosts K → Outlets K L → Given L
-given_to k o = given k.written o.out.now o.log.now
+-- They are the same two outlets, whose counts of faults did not fall. If a fault ended it, what the fault names
+-- has failed.
+pub record WritesTo (old new : PlainOutlets) (ended : Option RunFault) : Type 0 where
+  pub lasts : OutletsLast old new
+  pub cause : IfSome ended (IsCaused old new)
 
-module _ {K L : Type 0} (k : Ghosts K) (l : Ghosts L) where
-  -- A fault of the output or of the log comes only where that failed; out of memory needs no cause.
-  abbrev pub IsCaused : K → K → Option L → Option L → RunFault → Type 0
-  IsCaused out_old out_new old new fault.Write = Rose (k.faults out_old) (k.faults out_new)
-  IsCaused out_old out_new old new fault.LogWrite = LogFails l.faults old new
-  IsCaused out_old out_new old new fault.Memory = Unit {0}
-
-  -- No count of faults fell, and the log keeps its name. If a fault ended it, what the fault names has
-  -- failed.
-  pub record WritesOn (out_old out_new : K) (old new : Option L) (ended : Option RunFault)
-      : Type 0 where
-    pub counts : k.faults out_old ≤ k.faults out_new
-    pub stays : LogStays l.made_as l.faults old new
-    pub cause : IfSome ended (IsCaused out_old out_new old new)
-
-  -- The outlets are the same two as before, and WritesOn holds of them.
-  pub record WritesTo (old new : Outlets K L) (ended : Option RunFault) : Type 0 where
-    pub out_same : new.out.ghost_name ≡ old.out.ghost_name
-    pub log_same : new.log.ghost_name ≡ old.log.ghost_name
-    pub writes : WritesOn old.out.now new.out.now old.log.now new.log.now ended
-
-  -- what waited was written, or the output or the log failed
-  abbrev pub WritesRest : Outlets K L → Waiting → Outlets K L → Type 0
-  WritesRest old w new =
-      WritesOut l.written (given_to k old) w (given_to k new)
-      ⊎ Rose (k.faults old.out.now) (k.faults new.out.now)
-      ⊎ LogFails l.faults old.log.now new.log.now
+-- what waited was written, or the output or the log failed
+abbrev pub WritesRest : PlainOutlets → Telling → PlainOutlets → Type 0
+WritesRest old w new =
+    WritesOut old w new ⊎ Rose old.out.faults new.out.faults ⊎ LogFails old.log new.log

@@ -17,12 +17,15 @@ use Rattle.bp_arbiter.specs.Arbiters.{Tells, code_in, options_in, stand_in}
 use Rattle.bp_core.specs.declared.stepping.Core.{Core}
 use Rattle.bp_core.specs.Cores.{KeepsProgram}
 use Rattle.bp_told.specs.Order.{Texts, PrintsBehind}
-use Rattle.bp_told.specs.Told.{Given, Waiting, IsTold, IsBroken, IsWritten, IsPartly, WritesAll}
+use Rattle.bp_told.specs.Outlets.{PlainOutlets}
+use Rattle.bp_told.specs.Told.{IsTold, IsBroken, IsWritten, IsPartly, WritesAll}
 use Rattle.bp_told.specs.declared.fault.RunFault.{RunFault}
+use Rattle.bp_told.specs.declared.telling.Telling.{Telling}
 use Rattle.bp_turns.specs.Settled.{IsHere}
 use Rattle.bp_told.specs.declared.fault.RunFault.TheVariants as fault
 use Rattle.bp_session.specs.declared.reading.Reading.{Reading}
 use Rattle.bp_session.specs.inner.Readings.{HasFailed}
+use Rattle.bp_session.specs.inner.Services.{ServedRun}
 use Rattle.bp_session.specs.Reports.{HasNoVerdict}
 use Rattle.bp_session.specs.declared.stop.Stop.{Stop}
 use Rattle.bp_session.specs.declared.stop.Stop.TheVariants as stop
@@ -58,162 +61,165 @@ broke_at Write = None
 broke_at LogWrite = None
 broke_at Memory = None
 
-module _ {L : Type 0} (written : L → Option (List ℕ)) where
-  -- The run of this code is served: the core is at some moment of it, and since the first moment
-  -- the first of its records, and the lines that were taken of it, were told.
-  pub record IsServing (l : Code Origin PlainSet) (o : PlainOptions) (head : List ℕ)
-      (first : Given L) (c : Core) (now : Given L) (w : Waiting) : Type 0 where
-    pub code : code_in c.arbiter ≡ l
-    pub options : options_in c.arbiter ≡ o
-    pub taken : List Line
-    pub moment : Moment Origin
-    pub here : IsHere c taken moment
-    pub told : IsTold L written (text l o) head first now w (take w.kept c.arbiter.records) taken
+-- The run of this code is served: the core is at some moment of it, and since the first moment
+-- the first of its records, and the lines that were taken of it, were told.
+pub record IsServing (l : Code Origin PlainSet) (o : PlainOptions) (head : List ℕ)
+    (first : PlainOutlets) (s : ServedRun) : Type 0 where
+  pub code : code_in s.core.arbiter ≡ l
+  pub options : options_in s.core.arbiter ≡ o
+  pub taken : List Line
+  pub moment : Moment Origin
+  pub here : IsHere s.core taken moment
+  pub told : IsTold (text l o) head first s.outlets s.telling
+      (take s.telling.kept s.core.arbiter.records) taken
 
-  -- some run is served so
-  pub record IsReady (c : Core) (now : Given L) (w : Waiting) : Type 0 where
-    pub code : Code Origin PlainSet
-    pub options : PlainOptions
-    pub head : List ℕ
-    pub first : Given L
-    pub serving : IsServing code options head first c now w
+-- some run is served so
+pub record IsReady (s : ServedRun) : Type 0 where
+  pub code : Code Origin PlainSet
+  pub options : PlainOptions
+  pub head : List ℕ
+  pub first : PlainOutlets
+  pub serving : IsServing code options head first s
 
-  -- whatever run was served is served then
-  abbrev pub ServesOn : Core → Given L → Waiting → Core → Given L → Waiting → Type 0
-  ServesOn before old a after new b =
-      (l : Code Origin PlainSet) (o : PlainOptions) (head : List ℕ) (first : Given L)
-      → IsServing l o head first before old a → IsServing l o head first after new b
+-- whatever run was served is served then
+abbrev pub ServesOn : ServedRun → ServedRun → Type 0
+ServesOn before after =
+    (l : Code Origin PlainSet) (o : PlainOptions) (head : List ℕ) (first : PlainOutlets)
+    → IsServing l o head first before → IsServing l o head first after
 
-  -- Serving broke off: the records are a story, and telling a front of them broke off.
-  pub record IsBrokenOff (l : Code Origin PlainSet) (o : PlainOptions) (head : List ℕ)
-      (first : Given L) (c : Core) (now : Given L) (w : Waiting) (fault : RunFault) : Type 0 where
-    pub story : IsSome (text l o c.arbiter.records)
-    pub front : List Record
-    pub later : List Record
-    pub lines : List Line
-    pub is_front : front ++ later ≡ c.arbiter.records
-    pub broken : IsBroken L written (text l o) head first now w front lines fault
+-- Serving broke off: the records are a story, and telling a front of them broke off.
+pub record IsBrokenOff (l : Code Origin PlainSet) (o : PlainOptions) (head : List ℕ)
+    (first : PlainOutlets) (s : ServedRun) (fault : RunFault) : Type 0 where
+  pub story : IsSome (text l o s.core.arbiter.records)
+  pub front : List Record
+  pub later : List Record
+  pub lines : List Line
+  pub is_front : front ++ later ≡ s.core.arbiter.records
+  pub broken : IsBroken (text l o) head first s.outlets s.telling front lines fault
 
-  abbrev pub BreaksServing : Core → Given L → Waiting → Core → Given L → Waiting → RunFault → Type 0
-  BreaksServing before old a after new b fault =
-      (l : Code Origin PlainSet) (o : PlainOptions) (head : List ℕ) (first : Given L)
-      → IsServing l o head first before old a → IsBrokenOff l o head first after new b fault
+abbrev pub BreaksServing : ServedRun → ServedRun → RunFault → Type 0
+BreaksServing before after fault =
+    (l : Code Origin PlainSet) (o : PlainOptions) (head : List ℕ) (first : PlainOutlets)
+    → IsServing l o head first before → IsBrokenOff l o head first after fault
 
-  -- all records and the whole text of them were told
-  pub record IsAllTold (l : Code Origin PlainSet) (o : PlainOptions) (head : List ℕ)
-      (first : Given L) (c : Core) (now : Given L) (w : Waiting) : Type 0 where
-    pub lines : List Line
-    pub text_is : text l o c.arbiter.records ≡ Some (lines_text lines)
-    pub told : IsTold L written (text l o) head first now w c.arbiter.records lines
+-- all records and the whole text of them were told
+pub record IsAllTold (l : Code Origin PlainSet) (o : PlainOptions) (head : List ℕ)
+    (first : PlainOutlets) (s : ServedRun) : Type 0 where
+  pub lines : List Line
+  pub text_is : text l o s.core.arbiter.records ≡ Some (lines_text lines)
+  pub told : IsTold (text l o) head first s.outlets s.telling s.core.arbiter.records lines
 
-  abbrev pub TellsAll : Core → Given L → Waiting → Core → Given L → Waiting → Type 0
-  TellsAll before old a after new b =
-      (l : Code Origin PlainSet) (o : PlainOptions) (head : List ℕ) (first : Given L)
-      → IsServing l o head first before old a → IsAllTold l o head first after new b
+abbrev pub TellsAll : ServedRun → ServedRun → Type 0
+TellsAll before after =
+    (l : Code Origin PlainSet) (o : PlainOptions) (head : List ℕ) (first : PlainOutlets)
+    → IsServing l o head first before → IsAllTold l o head first after
 
-  -- all records and the whole text of them were written
-  pub record IsAllWritten (l : Code Origin PlainSet) (o : PlainOptions) (head : List ℕ)
-      (first : Given L) (c : Core) (now : Given L) : Type 0 where
-    pub lines : List Line
-    pub text_is : text l o c.arbiter.records ≡ Some (lines_text lines)
-    pub written_all : IsWritten L written head first now c.arbiter.records lines
-    pub behind : PrintsBehind written (text l o) head c.arbiter.records first.printed now.printed
-        first.log now.log
+-- all records and the whole text of them were written
+pub record IsAllWritten (l : Code Origin PlainSet) (o : PlainOptions) (head : List ℕ)
+    (first : PlainOutlets) (c : Core) (now : PlainOutlets) : Type 0 where
+  pub lines : List Line
+  pub text_is : text l o c.arbiter.records ≡ Some (lines_text lines)
+  pub written_all : IsWritten head first now c.arbiter.records lines
+  pub behind : PrintsBehind (text l o) head c.arbiter.records first.out.written
+      now.out.written first.log now.log
 
-  -- whatever run was served, all of it was written
-  abbrev pub WritesRun : Core → Given L → Waiting → Core → Given L → Type 0
-  WritesRun before old a after new =
-      (l : Code Origin PlainSet) (o : PlainOptions) (head : List ℕ) (first : Given L)
-      → IsServing l o head first before old a → IsAllWritten l o head first after new
+-- whatever run was served, all of it was written
+abbrev pub WritesRun : ServedRun → ServedRun → Type 0
+WritesRun before after =
+    (l : Code Origin PlainSet) (o : PlainOptions) (head : List ℕ) (first : PlainOutlets)
+    → IsServing l o head first before → IsAllWritten l o head first after.core after.outlets
 
-  -- a front of the records and a front of their lines were written
-  pub record IsFrontWritten (l : Code Origin PlainSet) (o : PlainOptions) (head : List ℕ)
-      (first : Given L) (c : Core) (now : Given L) : Type 0 where
-    pub story : IsSome (text l o c.arbiter.records)
-    pub front : List Record
-    pub later : List Record
-    pub lines : List Line
-    pub is_front : front ++ later ≡ c.arbiter.records
-    pub part : IsPartly L written (text l o) head first now front lines
+-- a front of the records and a front of their lines were written
+pub record IsFrontWritten (l : Code Origin PlainSet) (o : PlainOptions) (head : List ℕ)
+    (first : PlainOutlets) (c : Core) (now : PlainOutlets) : Type 0 where
+  pub story : IsSome (text l o c.arbiter.records)
+  pub front : List Record
+  pub later : List Record
+  pub lines : List Line
+  pub is_front : front ++ later ≡ c.arbiter.records
+  pub part : IsPartly (text l o) head first now front lines
 
-  -- whatever was told is told still
-  abbrev pub StillTold : Given L → Waiting → Given L → Waiting → Type 0
-  StillTold old a new b =
-      (text : Texts) (head : List ℕ) (first : Given L) (records : List Record) (lines : List Line)
-      → IsTold L written text head first old a records lines
-      → IsTold L written text head first new b records lines
+-- whatever was told is told still
+abbrev pub StillTold : ServedRun → ServedRun → Type 0
+StillTold before after =
+    (text : Texts) (head : List ℕ) (first : PlainOutlets) (records : List Record) (lines : List Line)
+    → IsTold text head first before.outlets before.telling records lines
+    → IsTold text head first after.outlets after.telling records lines
 
-  -- or a front of it was written
-  abbrev pub PartTold : Given L → Waiting → Given L → Type 0
-  PartTold old a new =
-      (text : Texts) (head : List ℕ) (first : Given L) (records : List Record) (lines : List Line)
-      → IsTold L written text head first old a records lines
-      → IsPartly L written text head first new records lines
+-- or a front of it was written
+abbrev pub PartTold : ServedRun → ServedRun → Type 0
+PartTold before after =
+    (text : Texts) (head : List ℕ) (first : PlainOutlets) (records : List Record) (lines : List Line)
+    → IsTold text head first before.outlets before.telling records lines
+    → IsPartly text head first after.outlets records lines
 
-  -- what was told is told still, and all of it was written, if it was to be
-  pub record IsToldStill (write : Bool) (old : Given L) (a : Waiting) (new : Given L) (b : Waiting)
-      : Type 0 where
-    pub still : StillTold old a new b
-    pub all : IsTrue write → WritesAll written old a new b
+-- all that was told was written
+abbrev pub WritesTold : ServedRun → ServedRun → Type 0
+WritesTold before after = WritesAll before.outlets before.telling after.outlets after.telling
 
-  -- A turn or a wait stopped. If memory ran out, what was told is told still. If writing failed, a
-  -- front of it was written, and memory did not run out.
-  abbrev pub StopsTurning : Given L → Waiting → Given L → Waiting → Stop → Type 0
-  StopsTurning old a new b (stop.Read j) = ⊥
-  StopsTurning old a new b (stop.Broken f) = (f ≡ fault.Memory) × StillTold old a new b
-  StopsTurning old a new b (stop.Unwritten f) = (¬ (f ≡ fault.Memory)) × PartTold old a new
+-- what was told is told still, and all of it was written, if it was to be
+pub record IsToldStill (write : Bool) (before after : ServedRun) : Type 0 where
+  pub still : StillTold before after
+  pub all : IsTrue write → WritesTold before after
 
-  -- what is known of the run where serving stopped
-  abbrev pub IsStopped : {S : Type 0} → Code Origin PlainSet → PlainOptions → List ℕ → Given L →
-      Core → Given L → Waiting → List (Reading S) → Stop → Type 0
-  IsStopped l o head first c now w readings (stop.Read j) =
-      IsServing l o head first c now w × HasFailed readings j × (c.arbiter.phase ≡ Rest)
-  IsStopped l o head first c now w readings (stop.Broken f) = IsBrokenOff l o head first c now w f
-  IsStopped l o head first c now w readings (stop.Unwritten f) =
-      (¬ (f ≡ fault.Memory)) × IsFrontWritten l o head first c now
+-- A turn or a wait stopped. If memory ran out, what was told is told still. If writing failed, a
+-- front of it was written, and memory did not run out.
+abbrev pub StopsTurning : ServedRun → ServedRun → Stop → Type 0
+StopsTurning before after (stop.Read j) = ⊥
+StopsTurning before after (stop.Broken f) = (f ≡ fault.Memory) × StillTold before after
+StopsTurning before after (stop.Unwritten f) = (¬ (f ≡ fault.Memory)) × PartTold before after
 
-  abbrev pub StopsServing : {S : Type 0} → Core → Given L → Waiting → Core → Given L → Waiting →
-      List (Reading S) → Stop → Type 0
-  StopsServing before old a after new b readings s =
-      (l : Code Origin PlainSet) (o : PlainOptions) (head : List ℕ) (first : Given L)
-      → IsServing l o head first before old a → IsStopped l o head first after new b readings s
+-- what is known of the run where serving stopped
+abbrev pub IsStopped : {S : Type 0} → Code Origin PlainSet → PlainOptions → List ℕ → PlainOutlets →
+    ServedRun → List (Reading S) → Stop → Type 0
+IsStopped l o head first s readings (stop.Read j) =
+    IsServing l o head first s × HasFailed readings j × (s.core.arbiter.phase ≡ Rest)
+IsStopped l o head first s readings (stop.Broken f) = IsBrokenOff l o head first s f
+IsStopped l o head first s readings (stop.Unwritten f) =
+    (¬ (f ≡ fault.Memory)) × IsFrontWritten l o head first s.core s.outlets
 
-  -- what is known of the run once it was served: it has its verdict, and all of it was written, or
-  -- serving stopped
-  abbrev pub IsServedTo : {S : Type 0} → Code Origin PlainSet → PlainOptions → List ℕ → Given L →
-      Core → Given L → Waiting → List (Reading S) → Result logs.Verdict Stop → Type 0
-  IsServedTo l o head first c now w readings (Ok v) =
-      (verdict_of c.arbiter.records ≡ Some v) × IsAllWritten l o head first c now
-  IsServedTo l o head first c now w readings (Err s) = IsStopped l o head first c now w readings s
+abbrev pub StopsServing : {S : Type 0} → ServedRun → ServedRun →
+    List (Reading S) → Stop → Type 0
+StopsServing before after readings s =
+    (l : Code Origin PlainSet) (o : PlainOptions) (head : List ℕ) (first : PlainOutlets)
+    → IsServing l o head first before → IsStopped l o head first after readings s
 
-  -- where an injector failed, the rest can be told
-  abbrev pub CanTellRest : Core → Given L → Waiting → Result logs.Verdict Stop → Type 0
-  CanTellRest c now w (Ok v) = Unit {0}
-  CanTellRest c now w (Err (stop.Read j)) = IsReady c now w × (c.arbiter.phase ≡ Rest)
-  CanTellRest c now w (Err (stop.Broken f)) = Unit {0}
-  CanTellRest c now w (Err (stop.Unwritten f)) = Unit {0}
+-- what is known of the run once it was served: it has its verdict, and all of it was written, or
+-- serving stopped
+abbrev pub IsServedTo : {S : Type 0} → Code Origin PlainSet → PlainOptions → List ℕ → PlainOutlets →
+    ServedRun → List (Reading S) → Result logs.Verdict Stop → Type 0
+IsServedTo l o head first s readings (Ok v) =
+    (verdict_of s.core.arbiter.records ≡ Some v) × IsAllWritten l o head first s.core s.outlets
+IsServedTo l o head first s readings (Err x) = IsStopped l o head first s readings x
 
-  -- what is known of the run at this ending
-  abbrev pub IsEnded : Code Origin PlainSet → PlainOptions → List ℕ → Given L → Core → Given L →
-      Ending → Type 0
-  IsEnded l o head first c now (Verdict v) =
-      (verdict_of c.arbiter.records ≡ Some v) × IsAllWritten l o head first c now
-  IsEnded l o head first c now (Read j) =
-      (is_complete c.arbiter.records ≡ false) × IsAllWritten l o head first c now
-      × HasNoVerdict l o c.arbiter.records
-  IsEnded l o head first c now Write = IsFrontWritten l o head first c now
-  IsEnded l o head first c now LogWrite = IsFrontWritten l o head first c now
-  IsEnded l o head first c now Memory = IsFrontWritten l o head first c now
+-- where an injector failed, the rest can be told
+abbrev pub CanTellRest : ServedRun → Result logs.Verdict Stop → Type 0
+CanTellRest s (Ok v) = Unit {0}
+CanTellRest s (Err (stop.Read j)) = IsReady s × (s.core.arbiter.phase ≡ Rest)
+CanTellRest s (Err (stop.Broken f)) = Unit {0}
+CanTellRest s (Err (stop.Unwritten f)) = Unit {0}
 
-  -- whatever run was served has ended so
-  pub record EndsServing (before : Core) (old : Given L) (a : Waiting) (after : Core)
-      (new : Given L) (end : Ending) : Type 0 where
-    pub ends : (l : Code Origin PlainSet) (o : PlainOptions) (head : List ℕ) (first : Given L)
-        → IsServing l o head first before old a → IsEnded l o head first after new end
+-- what is known of the run at this ending
+abbrev pub IsEnded : Code Origin PlainSet → PlainOptions → List ℕ → PlainOutlets → Core →
+    PlainOutlets → Ending → Type 0
+IsEnded l o head first c now (Verdict v) =
+    (verdict_of c.arbiter.records ≡ Some v) × IsAllWritten l o head first c now
+IsEnded l o head first c now (Read j) =
+    (is_complete c.arbiter.records ≡ false) × IsAllWritten l o head first c now
+    × HasNoVerdict l o c.arbiter.records
+IsEnded l o head first c now Write = IsFrontWritten l o head first c now
+IsEnded l o head first c now LogWrite = IsFrontWritten l o head first c now
+IsEnded l o head first c now Memory = IsFrontWritten l o head first c now
+
+-- whatever run was served has ended so
+pub record EndsServing (before after : ServedRun) (end : Ending) : Type 0 where
+  pub ends : (l : Code Origin PlainSet) (o : PlainOptions) (head : List ℕ) (first : PlainOutlets)
+      → IsServing l o head first before
+      → IsEnded l o head first after.core after.outlets end
 
 -- Nothing of the run is untold: as many records were told as the core has, and it has no line left to
 -- take.
-pub record NothingUntold (c : Core) (w : Waiting) : Type 0 where
+pub record NothingUntold (c : Core) (w : Telling) : Type 0 where
   pub records : w.kept ≡ length c.arbiter.records
   pub lines : length (stand_in c.arbiter).lines ≡ 0
 
