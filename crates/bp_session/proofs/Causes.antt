@@ -2,7 +2,7 @@
 use Rattle.std.proofs.Common.{◌≡◌, refl, ap, sym, subst, ◌∙◌, List, Option, Some, None}
 use Rattle.std.specs.Prelude.{Result, Ok, Err, IfErr, IfSome, IsErrOf, IsErrAnd}
 use Rattle.bp_told.specs.Outlets.{PlainOutlets}
-use Rattle.bp_told.specs.Words.{OutletsLast, IsCaused}
+use Rattle.bp_told.specs.Words.{OutletsLast, IsCaused, BreaksFlushing}
 use Rattle.bp_told.specs.declared.fault.RunFault.{RunFault}
 use Rattle.bp_told.specs.declared.fault.RunFault.TheVariants.{Write, LogWrite, Memory}
 use Rattle.bp_told.proofs.Words.{outlets_same, outlets_on, caused_later, caused_still}
@@ -63,6 +63,14 @@ writes_on {a} {b} {c} {f} {e} w v = record { lasts = outlets_on a b c w.lasts v.
 -- a fault of the earlier part is one of the whole
 pub writes_still : {a b c : PlainOutlets} {f e : Option RunFault} → WritesTo a b e → WritesTo b c f → WritesTo a c e
 writes_still {a} {b} {c} {f} {e} w v = record { lasts = outlets_on a b c w.lasts v.lasts; cause = cause_still a b c e w.lasts v.lasts w.cause }
+
+-- all that waited was written
+pub flushed_to : {a b : PlainOutlets} → OutletsLast a b → WritesTo a b None
+flushed_to l = record { lasts = l; cause = tt }
+
+-- or the output or the log failed
+pub flushed_not : {a b : PlainOutlets} {f : RunFault} → OutletsLast a b → BreaksFlushing a b f → WritesTo a b (Some f)
+flushed_not l h = record { lasts = l; cause = h.cause }
 
 -- hearing writes nothing
 pub hearing_writes : {S : Type 0} (readings : List (Reading S)) (s : Stop) (a : PlainOutlets) → StopsHearing readings s → WritesTo a a (stop_fault s)

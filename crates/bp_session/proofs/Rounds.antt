@@ -219,6 +219,10 @@ untold_there a b w s h n =
 pub untold_kept : (c : Core) (w v : Telling) → v.kept ≡ w.kept → NothingUntold c w → NothingUntold c v
 untold_kept c w v e n = record { records = e ∙ n.records; lines = n.lines }
 
+-- all was written, and the core is the same
+pub untold_write : {c d : Core} {w v : Telling} → d ≡ c → v.kept ≡ w.kept → NothingUntold c w → NothingUntold d v
+untold_write {c = c} {w = w} {v = v} same e n = subst (λ (x : Core). NothingUntold x v) (sym same) (untold_kept c w v e n)
+
 -- nothing entered, and a run that waits is where it was
 pub untold_waits : {a b d : Core} {now : PlainOutlets} {w : Telling} {heard : Bool} → IsReady (run_at a now w) → HearsOn a b
     → heard ≡ nat_lt (length a.arbiter.records) (length b.arbiter.records) → heard ≡ false → StaysThere b d → NothingUntold a w → NothingUntold d w
