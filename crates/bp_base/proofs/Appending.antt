@@ -3,7 +3,6 @@ use Rattle.std.proofs.Common.{◌≡◌, ℕ, ◌+◌, ◌-◌, ◌≤◌, List,
 use Rattle.std.specs.Prelude.{Option, Some, None}
 use Rattle.std.proofs.Math.Seq.{take-add}
 use Rattle.std.proofs.lemmas.List.{take-take, drop-drop, length-take-le, take_all, take_at}
-use Rattle.bp_base.specs.Counts.{Rose}
 use Rattle.bp_base.specs.Pieces.{Gives, Appends, AppendsFront}
 
 -- the next part of a slice, read from where the last one ended
@@ -36,7 +35,3 @@ copied_front left bytes buffer copy at n e k h =
     let front : take n (take n (drop at bytes) ++ drop n buffer) ≡ take n (drop at bytes) =
     take_at (take n (drop at bytes)) (drop n buffer) n (length-take-le n (drop at bytes) fits) in
     rw (e, k, whole, front, ← drop-drop n at bytes) (sym (take-append-drop n (drop at bytes)))
-
--- a count that rose later rose
-pub rose_from : (a b c : ℕ) → Rose b c → a ≤ b → Rose a c
-rose_from a b c r from = grind arith

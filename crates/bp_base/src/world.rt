@@ -1,5 +1,5 @@
 //! A world in memory, which tells all, and fails at the calls that its lists name.
-ghost use Rattle.std.specs.Prelude.{◌≡◌, ◌<◌, ◌≤◌, true, false, [], OnOk, OnErr, IfErr, IfOk, IsErrOf, IsSomeAnd, string_bytes, option_copied, option_map};
+ghost use Rattle.std.specs.Prelude.{◌≡◌, ◌<◌, ◌≤◌, true, false, [], OnOk, OnErr, IfErr, IfOk, IsErrOf, IsSomeAnd, string_bytes, option_copied, option_map, vec_len, vec_capacity};
 ghost use Rattle.bp_base.specs.Counts.{Rose, raised};
 ghost use Rattle.bp_base.specs.Worlds.{Sets};
 ghost use Rattle.bp_base.specs.Outside.{OpensAs, OpensNone, OnlyReads, CreatesAs, CreatesNone, OnlyMakes, ClosesInput, ClosesOutput};
@@ -62,6 +62,16 @@ impl Sink for MemoryOutput {
     fn write(&mut self, bytes: &[u8]) -> Result<usize, Failed> {
         self.sink.write(bytes)
     }
+}
+
+/// The name as a text of its own, for which the list then has room.
+fn with_room(alloc: Global, name: &str, names: &mut Vec<String>) -> Result<String, Memory>
+    ensures name { IfOk result (λ text. string_bytes text ≡ name.now) }
+    ensures room { OnOk result (vec_len names.new < vec_capacity names.new) }
+    ensures items { names.new.items ≡ names.old.items }
+{
+    names.reserve(1)?;
+    name.to_string(alloc)
 }
 
 /// Bytes under names, in memory.
@@ -168,17 +178,6 @@ impl MemoryWorld {
         find(&self.held, name)
     }
 
-    /// Counts one more call with that name, and says whether it fails.
-    fn ask(&mut self, name: &str) -> Result<bool, Memory>
-        ensures fails { IfOk result (λ fails. fails ≡ is_to_fail self.old.calls) }
-        ensures asked { OnOk result (self.new ≡ asked_for self.old name.now) }
-        ensures err { OnErr result (self.new ≡ self.old) }
-    {
-        let asked = name.to_string(self.alloc)?;
-        self.asked.push(asked)?;
-        Ok(self.calls.count())
-    }
-
     /// The calls that fail under the name.
     fn failing(&self, name: &str) -> Result<Vec<u64>, Memory>
         ensures { IfOk result (λ calls. calls.items ≡ failing_under self.now name.now) }
@@ -242,9 +241,10 @@ impl World for MemoryWorld {
         ensures after_memory { IsErrOf result WorldError.Memory → self.new ≡ self.old }
     {
         let input = self.input(name)?;
-        let opened = name.to_string(self.alloc)?;
-        self.opened.reserve(1)?;
-        let fails = self.ask(name)?;
+        let asked = with_room(self.alloc, name, &mut self.asked)?;
+        let opened = with_room(self.alloc, name, &mut self.opened)?;
+        let fails = self.calls.count();
+        self.asked.push_reserved(asked);
         match input {
             Some(input) if !fails => {
                 self.opened.push_reserved(opened);
@@ -273,9 +273,11 @@ impl World for MemoryWorld {
         ensures after_memory { IsErrOf result WorldError.Memory → self.new ≡ self.old }
     {
         let output = self.output(name)?;
-        let made = name.to_string(self.alloc)?;
-        self.made.reserve(1)?;
-        if self.ask(name)? {
+        let asked = with_room(self.alloc, name, &mut self.asked)?;
+        let made = with_room(self.alloc, name, &mut self.made)?;
+        let fails = self.calls.count();
+        self.asked.push_reserved(asked);
+        if fails {
             self.write_faults = self.write_faults.saturating_add(1);
             return Err(WorldError::Failed);
         }

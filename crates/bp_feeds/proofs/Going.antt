@@ -3,6 +3,8 @@ use Rattle.std.proofs.Common.{◌≡◌, ◌⊎◌, ⊎_elim, ℕ, ◌≤◌, tr
 use Rattle.std.proofs.lemmas.Bool.{or_cases, or_parts}
 use Rattle.std.proofs.lemmas.List.Folds.{list_any-append}
 use Rattle.bp_base.specs.Counts.{Rose}
+use Rattle.bp_base.specs.Outside.{PlainSource}
+use Rattle.bp_base.proofs.Following.{rose_on, rose_from}
 use Rattle.bp_lanes.specs.declared.ends.Mouth.{Mouth}
 use Rattle.bp_lanes.specs.Lanes.{offered, IsSameMouth}
 use Rattle.bp_log.specs.declared.item.Item.{Item}
@@ -12,13 +14,6 @@ use Rattle.bp_feeds.specs.Items.{is_fault, has_fault}
 use Rattle.bp_feeds.specs.Reading.{Reading, HasRead, ReadsOn, IsSameReading}
 use Rattle.bp_feeds.specs.Feeds.{reading_of, given, StandsTo, GoesOn}
 use Rattle.bp_feeds.proofs.Within.{same_read}
-
--- a count that rose has risen when it rises on, and so has one that rises later
-pub rose_on : (a b c : ℕ) → Rose a b → a ≤ b → b ≤ c → Rose a c
-rose_on a b c r from more = grind arith
-
-pub rose_from : (a b c : ℕ) → Rose b c → a ≤ b → Rose a c
-rose_from a b c r from = grind arith
 
 -- nothing was read
 pub reads_nothing : (r : Reading) → ReadsOn r [] r
@@ -54,21 +49,21 @@ same_lane a = ((refl, refl, refl, refl), refl)
 lane_on : (a b c : Mouth) → IsSameMouth a b → IsSameMouth b c → IsSameMouth a c
 lane_on a b c x y = ((y.0.0 ∙ x.0.0, y.0.1 ∙ x.0.1, y.0.2 ∙ x.0.2, y.0.3 ∙ x.0.3), y.1 ∙ x.1)
 
-module _ {S : Type 0} (left : S → Option (List ℕ)) (faults : S → ℕ) where
+module _ {S : Type 0} (told : S → PlainSource) where
   -- a step that gave these items more
   pub goes_more : (old new : Feed S) (more : List Item) → IsSameMouth old.mouth new.mouth → given new ≡ given old ++ more
-      → ReadsOn (reading_of left old.lines) more (reading_of left new.lines)
-      → (has_fault more ≡ true → Rose (faults old.lines.source) (faults new.lines.source))
-      → (has_fault more ≡ false → faults new.lines.source ≡ faults old.lines.source) → faults old.lines.source ≤ faults new.lines.source
-      → GoesOn left faults old new
-  goes_more old new more lane all reads cause told counts = record { lane = lane; more = more; all = all; reads = reads; cause = cause; told = told; counts = counts }
+      → ReadsOn (reading_of told old.lines) more (reading_of told new.lines)
+      → (has_fault more ≡ true → Rose (told old.lines.source).faults (told new.lines.source).faults)
+      → (has_fault more ≡ false → (told new.lines.source).faults ≡ (told old.lines.source).faults) → (told old.lines.source).faults ≤ (told new.lines.source).faults
+      → GoesOn told old new
+  goes_more old new more lane all reads cause spares counts = record { lane = lane; more = more; all = all; reads = reads; cause = cause; spares = spares; counts = counts }
 
   -- a step that read nothing
-  pub goes_same : (old new : Feed S) → IsSameMouth old.mouth new.mouth → given new ≡ given old → new.lines ≡ old.lines → GoesOn left faults old new
+  pub goes_same : (old new : Feed S) → IsSameMouth old.mouth new.mouth → given new ≡ given old → new.lines ≡ old.lines → GoesOn told old new
   goes_same old new lane all lines =
       goes_more old new [] lane (all ∙ sym (append-nil (given old)))
-      (subst (λ l. ReadsOn (reading_of left old.lines) [] (reading_of left l)) (sym lines) (reads_nothing (reading_of left old.lines)))
-      (λ h. cc) (λ h. ap (λ l. faults l.source) lines) (omega (arith, ap (λ l. faults l.source) lines))
+      (subst (λ l. ReadsOn (reading_of told old.lines) [] (reading_of told l)) (sym lines) (reads_nothing (reading_of told old.lines)))
+      (λ h. cc) (λ h. ap (λ l. (told l.source).faults) lines) (omega (arith, ap (λ l. (told l.source).faults) lines))
 
   pub gave_item : (old new : Feed S) (item : Item) → old.kept ≡ None → given new ≡ offered old.mouth ++ item ∷ [] → given new ≡ given old ++ item ∷ []
   gave_item old new item none all =
@@ -78,44 +73,44 @@ module _ {S : Type 0} (left : S → Option (List ℕ)) (faults : S → ℕ) wher
   -- a step that read an item and offered or kept it
   pub goes_item : (old new : Feed S) (mid : LineReader S) (item : Item) (o : Option Item) → IsSameMouth old.mouth new.mouth → old.kept ≡ None
       → given new ≡ offered old.mouth ++ item ∷ [] → new.lines ≡ mid → o ≡ Some item
-      → ReadsOn (reading_of left old.lines) (option_to_list o) (reading_of left mid)
-      → (has_fault (option_to_list o) ≡ true → Rose (faults old.lines.source) (faults mid.source))
-      → (has_fault (option_to_list o) ≡ false → faults mid.source ≡ faults old.lines.source) → faults old.lines.source ≤ faults mid.source
-      → GoesOn left faults old new
-  goes_item old new mid item o lane none all lines is reads cause told counts =
+      → ReadsOn (reading_of told old.lines) (option_to_list o) (reading_of told mid)
+      → (has_fault (option_to_list o) ≡ true → Rose (told old.lines.source).faults (told mid.source).faults)
+      → (has_fault (option_to_list o) ≡ false → (told mid.source).faults ≡ (told old.lines.source).faults) → (told old.lines.source).faults ≤ (told mid.source).faults
+      → GoesOn told old new
+  goes_item old new mid item o lane none all lines is reads cause spares counts =
       let gave : given old ≡ offered old.mouth = ap (λ k. offered old.mouth ++ option_to_list k) none ∙ append-nil (offered old.mouth) in
-      let read : ReadsOn (reading_of left old.lines) (item ∷ []) (reading_of left mid) =
-      subst (λ x. ReadsOn (reading_of left old.lines) (option_to_list x) (reading_of left mid)) is reads in
-      let caused : has_fault (item ∷ []) ≡ true → Rose (faults old.lines.source) (faults mid.source) =
-      subst (λ x. has_fault (option_to_list x) ≡ true → Rose (faults old.lines.source) (faults mid.source)) is cause in
-      let spared : has_fault (item ∷ []) ≡ false → faults mid.source ≡ faults old.lines.source =
-      subst (λ x. has_fault (option_to_list x) ≡ false → faults mid.source ≡ faults old.lines.source) is told in
+      let read : ReadsOn (reading_of told old.lines) (item ∷ []) (reading_of told mid) =
+      subst (λ x. ReadsOn (reading_of told old.lines) (option_to_list x) (reading_of told mid)) is reads in
+      let caused : has_fault (item ∷ []) ≡ true → Rose (told old.lines.source).faults (told mid.source).faults =
+      subst (λ x. has_fault (option_to_list x) ≡ true → Rose (told old.lines.source).faults (told mid.source).faults) is cause in
+      let spared : has_fault (item ∷ []) ≡ false → (told mid.source).faults ≡ (told old.lines.source).faults =
+      subst (λ x. has_fault (option_to_list x) ≡ false → (told mid.source).faults ≡ (told old.lines.source).faults) is spares in
       goes_more old new (item ∷ []) lane (all ∙ ap (λ l. l ++ item ∷ []) (sym gave))
-      (subst (λ l. ReadsOn (reading_of left old.lines) (item ∷ []) (reading_of left l)) (sym lines) read)
-      (subst (λ l. has_fault (item ∷ []) ≡ true → Rose (faults old.lines.source) (faults l.source)) (sym lines) caused)
-      (subst (λ l. has_fault (item ∷ []) ≡ false → faults l.source ≡ faults old.lines.source) (sym lines) spared)
-      (subst (λ l. faults old.lines.source ≤ faults l.source) (sym lines) counts)
+      (subst (λ l. ReadsOn (reading_of told old.lines) (item ∷ []) (reading_of told l)) (sym lines) read)
+      (subst (λ l. has_fault (item ∷ []) ≡ true → Rose (told old.lines.source).faults (told l.source).faults) (sym lines) caused)
+      (subst (λ l. has_fault (item ∷ []) ≡ false → (told l.source).faults ≡ (told old.lines.source).faults) (sym lines) spared)
+      (subst (λ l. (told old.lines.source).faults ≤ (told l.source).faults) (sym lines) counts)
 
   -- no step
-  pub goes_nowhere : (f : Feed S) → GoesOn left faults f f
+  pub goes_nowhere : (f : Feed S) → GoesOn told f f
   goes_nowhere f = goes_same f f (same_lane f.mouth) refl refl
 
   -- two steps
-  pub goes_on : (a b c : Feed S) → GoesOn left faults a b → GoesOn left faults b c → GoesOn left faults a c
+  pub goes_on : (a b c : Feed S) → GoesOn told a b → GoesOn told b c → GoesOn told a c
   goes_on a b c x y = record {
     lane = lane_on a.mouth b.mouth c.mouth x.lane y.lane;
     more = x.more ++ y.more;
     all = y.all ∙ ap (λ l. l ++ y.more) x.all ∙ append_assoc (given a) x.more y.more;
-    reads = reads_both (reading_of left a.lines) (reading_of left b.lines) (reading_of left c.lines) x.more y.more x.reads y.reads;
+    reads = reads_both (reading_of told a.lines) (reading_of told b.lines) (reading_of told c.lines) x.more y.more x.reads y.reads;
     cause = λ h. ⊎_elim
-        (λ (k : has_fault x.more ≡ true). rose_on (faults a.lines.source) (faults b.lines.source) (faults c.lines.source) (x.cause k) x.counts y.counts)
-        (λ (k : has_fault y.more ≡ true). rose_from (faults a.lines.source) (faults b.lines.source) (faults c.lines.source) (y.cause k) x.counts) (faults_of x.more y.more h);
-    told = λ h. let p = sound_parts x.more y.more h in y.told p.1 ∙ x.told p.0;
+        (λ (k : has_fault x.more ≡ true). rose_on (told a.lines.source).faults (told b.lines.source).faults (told c.lines.source).faults (x.cause k) x.counts y.counts)
+        (λ (k : has_fault y.more ≡ true). rose_from (told a.lines.source).faults (told b.lines.source).faults (told c.lines.source).faults (y.cause k) x.counts) (faults_of x.more y.more h);
+    spares = λ h. let p = sound_parts x.more y.more h in y.spares p.1 ∙ x.spares p.0;
     counts = omega (arith, x.counts, y.counts);
   }
 
   -- what a feed stands to, it stands to when it went on
-  pub stands_on : (start : Option (List ℕ)) (before : List Item) (old new : Feed S) → GoesOn left faults old new → StandsTo left start before old → StandsTo left start before new
+  pub stands_on : (start : Option (List ℕ)) (before : List Item) (old new : Feed S) → GoesOn told old new → StandsTo told start before old → StandsTo told start before new
   stands_on start before old new g s = record {
     took = s.took ++ g.reads.came;
     gave = s.gave ++ g.more;

@@ -2,6 +2,7 @@
 use Rattle.std.specs.Prelude.{◌≡◌, ◌≤◌, ℕ, Bool, true, false, ◌&&◌, List, ◌++◌, Option, option_to_list, is_none}
 use Rattle.bp_log.specs.declared.item.Item.{Item}
 use Rattle.bp_base.specs.Counts.{Rose}
+use Rattle.bp_base.specs.Outside.{PlainSource}
 use Rattle.bp_lanes.specs.Lanes.{offered, IsSameMouth}
 use Rattle.bp_feeds.specs.declared.line_reader.LineReader.{LineReader}
 use Rattle.bp_feeds.specs.declared.feed.Feed.{Feed}
@@ -13,10 +14,10 @@ module _ {S : Type 0} where
   abbrev pub held : LineReader S → List ℕ
   held l = l.line.items ++ l.block
 
-  -- how far the lines were read, by what the source has left
-  abbrev pub reading_of : (S → Option (List ℕ)) → LineReader S → Reading
-  reading_of left l =
-      record { held = held l; number = l.number; reached = l.reached; left = left l.source }
+  -- how far the lines were read, by what the source tells
+  abbrev pub reading_of : (S → PlainSource) → LineReader S → Reading
+  reading_of told l =
+      record { held = held l; number = l.number; reached = l.reached; left = (told l.source).left }
 
   -- what was offered, and then what is kept
   abbrev pub given : Feed S → List Item
@@ -28,20 +29,20 @@ module _ {S : Type 0} where
 
   -- after what stood there before, the feed has given the items that it read of a source that had so
   -- much left at the start
-  pub record StandsTo (left : S → Option (List ℕ)) (start : Option (List ℕ)) (before : List Item)
+  pub record StandsTo (told : S → PlainSource) (start : Option (List ℕ)) (before : List Item)
       (f : Feed S) : Type 0 where
     pub took : List ℕ
     pub gave : List Item
     pub all : given f ≡ before ++ gave
-    pub read : HasRead start took gave (reading_of left f.lines)
+    pub read : HasRead start took gave (reading_of told f.lines)
 
   -- The feed went on: on the same lane it gave the items more that it read. A fault is among them only
   -- where the source failed, and where none is, its count of faults stayed.
-  pub record GoesOn (left : S → Option (List ℕ)) (faults : S → ℕ) (old new : Feed S) : Type 0 where
+  pub record GoesOn (told : S → PlainSource) (old new : Feed S) : Type 0 where
     pub lane : IsSameMouth old.mouth new.mouth
     pub more : List Item
     pub all : given new ≡ given old ++ more
-    pub reads : ReadsOn (reading_of left old.lines) more (reading_of left new.lines)
-    pub cause : has_fault more ≡ true → Rose (faults old.lines.source) (faults new.lines.source)
-    pub told : has_fault more ≡ false → faults new.lines.source ≡ faults old.lines.source
-    pub counts : faults old.lines.source ≤ faults new.lines.source
+    pub reads : ReadsOn (reading_of told old.lines) more (reading_of told new.lines)
+    pub cause : has_fault more ≡ true → Rose (told old.lines.source).faults (told new.lines.source).faults
+    pub spares : has_fault more ≡ false → (told new.lines.source).faults ≡ (told old.lines.source).faults
+    pub counts : (told old.lines.source).faults ≤ (told new.lines.source).faults

@@ -56,16 +56,16 @@ impl Block {
     /// Asks the source for more bytes, and answers how many came. That none came means that none is left.
     pub(crate) fn fill<S: Source>(&mut self, source: &mut S) -> Result<usize, Failed>
         requires { self.old ≡ [] }
-        ensures given { OnOk result (Gives (S.left source.old) self.new (S.left source.new)) }
+        ensures given { OnOk result (Gives (S.told source.old).left self.new (S.told source.new).left) }
         ensures count { IfOk result (λ n. length self.new ≡ n) }
         ensures most { length self.new ≤ MOST_READ }
-        ensures end { IfOk result (λ n. n ≡ 0 → IfSome (S.left source.old) (λ bytes. bytes ≡ [])) }
+        ensures end { IfOk result (λ n. n ≡ 0 → IfSome (S.told source.old).left (λ bytes. bytes ≡ [])) }
 
         ensures none { OnErr result (self.new ≡ []) }
-        ensures failed { OnErr result (S.left source.new ≡ S.left source.old) }
-        ensures cause { OnErr result (Rose (S.faults source.old) (S.faults source.new)) }
-        ensures spares { OnOk result (S.faults source.new ≡ S.faults source.old) }
-        ensures counts { S.faults source.old ≤ S.faults source.new }
+        ensures failed { OnErr result ((S.told source.new).left ≡ (S.told source.old).left) }
+        ensures cause { OnErr result (Rose (S.told source.old).faults (S.told source.new).faults) }
+        ensures spares { OnOk result ((S.told source.new).faults ≡ (S.told source.old).faults) }
+        ensures counts { (S.told source.old).faults ≤ (S.told source.new).faults }
     {
         self.at = 0;
         self.end = 0;

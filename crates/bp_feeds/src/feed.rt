@@ -40,7 +40,7 @@ impl<S: Source> Feed<S> {
         ensures parts { (result.lines.source ≡ source)
             × (result.mouth ≡ mouth) × (result.kept ≡ None) }
         ensures fresh { feed_is_over result ≡ false }
-        ensures stands { StandsTo S.left (S.left source) (offered mouth) result }
+        ensures stands { StandsTo S.told (S.told source).left (offered mouth) result }
     {
         Feed {
             lines: LineReader::new(alloc, source),
@@ -115,11 +115,11 @@ impl<S: Source> Feed<S> {
     /// Out of memory, and then nothing was offered and the feed has the same to give.
     pub fn turn(&mut self) -> Result<Fed, Memory>
         requires { feed_is_over self.old ≡ false }
-        ensures goes_on { GoesOn S.left S.faults self.old self.new }
+        ensures goes_on { GoesOn S.told self.old self.new }
         ensures first { IsSome self.old.kept → self.new.lines ≡ self.old.lines }
         ensures lines { IfOk result (λ _. self.new.lines.number ≤ self.old.lines.number + 1) }
         ensures passes { IfOk result (λ _.
-            PassesLine (reading_of S.left self.old.lines) (reading_of S.left self.new.lines)) }
+            PassesLine (reading_of S.told self.old.lines) (reading_of S.told self.new.lines)) }
         ensures one { IfOk result (λ _. (given self.new ≡ given self.old)
             ⊎ ((item : Item) × (given self.new ≡ given self.old ++ item ∷ []))) }
 
@@ -135,7 +135,7 @@ impl<S: Source> Feed<S> {
             ⊎ (self.new.lines.number ≡ self.old.lines.number + 1) }
 
         ensures memory { OnErr result
-            (IsSameReading (reading_of S.left self.old.lines) (reading_of S.left self.new.lines)) }
+            (IsSameReading (reading_of S.told self.old.lines) (reading_of S.told self.new.lines)) }
         ensures nothing { OnErr result
             ((self.new.mouth ≡ self.old.mouth) × (self.new.kept ≡ self.old.kept)) }
         ensures asks { has_line (held self.old.lines) ≡ true

@@ -36,8 +36,8 @@ impl<S: Source> LineReader<S> {
     /// The lines of a source, of which none was read.
     pub(crate) fn new(alloc: Global, source: S) -> LineReader<S>
         ensures source { result.source ≡ source }
-        ensures reading { reading_of S.left result
-            ≡ record { held = []; number = 1; reached = Reached.Within; left = S.left source } }
+        ensures reading { reading_of S.told result
+            ≡ record { held = []; number = 1; reached = Reached.Within; left = (S.told source).left } }
     {
         LineReader {
             alloc,
@@ -103,18 +103,18 @@ impl<S: Source> LineReader<S> {
     /// Reads blocks until the line is whole, or can't become one.
     fn gather(&mut self) -> Result<Gathered, Memory>
         requires { self.old.reached ≡ Reached.Within }
-        ensures same { IsSameReading (reading_of S.left self.old) (reading_of S.left self.new) }
+        ensures same { IsSameReading (reading_of S.told self.old) (reading_of S.told self.new) }
         ensures line { result ≡ Ok Gathered.Line → (more : List ℕ) × (self.new.block ≡ 10 ∷ more) }
         ensures last { result ≡ Ok Gathered.Last → (self.new.block ≡ [])
-            × IsSameToEnd (reading_of S.left self.old) (reading_of S.left self.new) }
+            × IsSameToEnd (reading_of S.told self.old) (reading_of S.told self.new) }
         ensures long { result ≡ Ok Gathered.TooLong → IsTooLong (held self.new) }
 
         ensures fault { result ≡ Ok Gathered.Fault → self.new.block ≡ [] }
         ensures cause { result ≡ Ok Gathered.Fault
-            → Rose (S.faults self.old.source) (S.faults self.new.source) }
+            → Rose (S.told self.old.source).faults (S.told self.new.source).faults }
         ensures told { ¬ (result ≡ Ok Gathered.Fault)
-            → S.faults self.new.source ≡ S.faults self.old.source }
-        ensures counts { S.faults self.old.source ≤ S.faults self.new.source }
+            → (S.told self.new.source).faults ≡ (S.told self.old.source).faults }
+        ensures counts { (S.told self.old.source).faults ≤ (S.told self.new.source).faults }
         ensures asks { has_line (held self.old) ≡ true → self.new.source ≡ self.old.source }
     {
         loop {
@@ -136,8 +136,8 @@ impl<S: Source> LineReader<S> {
         requires within { self.old.reached ≡ Reached.Within }
         requires line { (more : List ℕ) × (self.old.block ≡ 10 ∷ more) }
         ensures reads { IfOk result (λ item.
-            ReadsOn (reading_of S.left self.old) (option_to_list item)
-            (reading_of S.left self.new)) }
+            ReadsOn (reading_of S.told self.old) (option_to_list item)
+            (reading_of S.told self.new)) }
         ensures last { IfOk result (λ item. is_read self.new.reached ≡ ends item) }
         ensures sound { IfOk result (λ item. has_fault (option_to_list item) ≡ false) }
         ensures number { IfOk result (λ item. ends item ≡ false
@@ -163,8 +163,8 @@ impl<S: Source> LineReader<S> {
         requires within { self.old.reached ≡ Reached.Within }
         requires all { self.old.block ≡ [] }
         ensures reads { IfOk result (λ item.
-            ReadsLast (reading_of S.left self.old) (option_to_list item)
-            (reading_of S.left self.new)) }
+            ReadsLast (reading_of S.told self.old) (option_to_list item)
+            (reading_of S.told self.new)) }
         ensures last { IfOk result (λ item. is_read self.new.reached ≡ ends item) }
         ensures sound { IfOk result (λ item. has_fault (option_to_list item) ≡ false) }
         ensures number { IfOk result (λ item. ends item ≡ false
@@ -199,22 +199,22 @@ impl<S: Source> LineReader<S> {
     pub(crate) fn next(&mut self) -> Result<Option<Item>, Memory>
         requires { is_read self.old.reached ≡ false }
         ensures reads { IfOk result (λ item.
-            ReadsOn (reading_of S.left self.old) (option_to_list item)
-            (reading_of S.left self.new)) }
+            ReadsOn (reading_of S.told self.old) (option_to_list item)
+            (reading_of S.told self.new)) }
         ensures last { IfOk result (λ item. is_read self.new.reached ≡ ends item) }
         ensures skips { result ≡ Ok None → self.new.number ≡ self.old.number + 1 }
         ensures lines { IfOk result (λ _. self.new.number ≤ self.old.number + 1) }
         ensures passes { IfOk result (λ _.
-            PassesLine (reading_of S.left self.old) (reading_of S.left self.new)) }
+            PassesLine (reading_of S.told self.old) (reading_of S.told self.new)) }
         ensures memory { OnErr result
-            (IsSameReading (reading_of S.left self.old) (reading_of S.left self.new)) }
+            (IsSameReading (reading_of S.told self.old) (reading_of S.told self.new)) }
 
         ensures cause { IfOk result (λ item. has_fault (option_to_list item) ≡ true
-            → Rose (S.faults self.old.source) (S.faults self.new.source)) }
+            → Rose (S.told self.old.source).faults (S.told self.new.source).faults) }
         ensures told { IfOk result (λ item. has_fault (option_to_list item) ≡ false
-            → S.faults self.new.source ≡ S.faults self.old.source) }
-        ensures spares { OnErr result (S.faults self.new.source ≡ S.faults self.old.source) }
-        ensures counts { S.faults self.old.source ≤ S.faults self.new.source }
+            → (S.told self.new.source).faults ≡ (S.told self.old.source).faults) }
+        ensures spares { OnErr result ((S.told self.new.source).faults ≡ (S.told self.old.source).faults) }
+        ensures counts { (S.told self.old.source).faults ≤ (S.told self.new.source).faults }
         ensures asks { has_line (held self.old) ≡ true → self.new.source ≡ self.old.source }
     {
         if self.reached == Reached::Last {

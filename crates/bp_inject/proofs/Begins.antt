@@ -5,6 +5,7 @@ use Rattle.std.proofs.lemmas.Bool.{or_left, or_right, or_parts, both_ways}
 use Rattle.std.proofs.lemmas.List.{append_cancel_left}
 use Rattle.std.proofs.lemmas.List.Folds.{list_any-append}
 use mathlib.Core.List.{IsPrefix}
+use Rattle.bp_base.specs.Outside.{PlainSource}
 use Rattle.bp_base.specs.Pieces.{Gives}
 use Rattle.bp_log.specs.declared.item.Item.{Item}
 use Rattle.bp_log.specs.declared.item.Item.TheVariants.{Failed, End}
@@ -219,11 +220,11 @@ reached_last Faulted start took all number held xs kept e h = kept_open kept xs 
 
 module _ {S : Type 0} where
   -- what was offered begins the items of the bytes
-  pub begins : (left : S → Option (List ℕ)) (start : Option (List ℕ)) (f : Feed S) → StandsTo left start [] f → BeginsItems start (left f.lines.source) (offered f.mouth)
-  begins left start f s =
-      reached_begins f.lines.reached start s.took s.gave f.lines.number (reading_of left f.lines).held (left f.lines.source) (offered f.mouth) (option_to_list f.kept) s.all s.read.taken s.read.is
+  pub begins : (told : S → PlainSource) (start : Option (List ℕ)) (f : Feed S) → StandsTo told start [] f → BeginsItems start (told f.lines.source).left (offered f.mouth)
+  begins told start f s =
+      reached_begins f.lines.reached start s.took s.gave f.lines.number (reading_of told f.lines).held (told f.lines.source).left (offered f.mouth) (option_to_list f.kept) s.all s.read.taken s.read.is
 
   -- a feed is over exactly where the last item was offered
-  pub over_is_last : (left : S → Option (List ℕ)) (start : Option (List ℕ)) (f : Feed S) → StandsTo left start [] f → has_last (offered f.mouth) ≡ is_over f
-  over_is_last left start f s =
-      reached_last f.lines.reached start s.took s.gave f.lines.number (reading_of left f.lines).held (offered f.mouth) f.kept s.all s.read.is
+  pub over_is_last : (told : S → PlainSource) (start : Option (List ℕ)) (f : Feed S) → StandsTo told start [] f → has_last (offered f.mouth) ≡ is_over f
+  over_is_last told start f s =
+      reached_last f.lines.reached start s.took s.gave f.lines.number (reading_of told f.lines).held (offered f.mouth) f.kept s.all s.read.is

@@ -5,6 +5,7 @@ use Rattle.std.specs.Prelude.{is_none}
 use Rattle.std.proofs.lemmas.List.{nil_from_length}
 use Rattle.std.proofs.lemmas.List.Folds.{list_any-append}
 use Rattle.bp_base.specs.Counts.{Rose}
+use Rattle.bp_base.specs.Outside.{PlainSource}
 use Rattle.bp_log.specs.declared.item.Item.{Item}
 use Rattle.bp_lanes.specs.declared.ends.Mouth.{Mouth}
 use Rattle.bp_lanes.specs.Lanes.{offered}
@@ -12,7 +13,8 @@ use Rattle.bp_feeds.specs.declared.feed.Feed.{Feed}
 use Rattle.bp_feeds.specs.Items.{is_fault, has_fault, has_last}
 use Rattle.bp_feeds.specs.Reading.{is_read, BeginsItems}
 use Rattle.bp_feeds.specs.Feeds.{given, is_over, GoesOn}
-use Rattle.bp_feeds.proofs.Going.{rose_on, rose_from, sound_parts, stands_on}
+use Rattle.bp_base.proofs.Following.{rose_on, rose_from}
+use Rattle.bp_feeds.proofs.Going.{sound_parts, stands_on}
 use Rattle.bp_inject.specs.Injectors.{IsUnread, IsFrom, CameBack}
 use Rattle.bp_inject.proofs.Begins.{begins, over_is_last}
 
@@ -37,32 +39,32 @@ unread source feed mouth parts none = record {
       ∙ ap (λ (m : Mouth). offered m) parts.1 ∙ nil_from_length (offered mouth) none;
 }
 
-module _ {S : Type 0} (left : S → Option (List ℕ)) (faults : S → ℕ) where
+module _ {S : Type 0} (told : S → PlainSource) where
   -- a feed of a source that went on is a feed of that source
-  pub from_on : (source : S) (old new : Feed S) → IsFrom left faults source old → GoesOn left faults old new → IsFrom left faults source new
+  pub from_on : (source : PlainSource) (old new : Feed S) → IsFrom told source old → GoesOn told old new → IsFrom told source new
   from_on source old new f g = record {
-    stands = stands_on left faults (left source) [] old new g f.stands;
+    stands = stands_on told source.left [] old new g f.stands;
     cause = λ h. ⊎_elim
-        (λ (k : has_fault (given old) ≡ true). rose_on (faults source) (faults old.lines.source) (faults new.lines.source) (f.cause k) f.counts g.counts)
-        (λ (k : has_fault g.more ≡ true). rose_from (faults source) (faults old.lines.source) (faults new.lines.source) (g.cause k) f.counts)
+        (λ (k : has_fault (given old) ≡ true). rose_on source.faults (told old.lines.source).faults (told new.lines.source).faults (f.cause k) f.counts g.counts)
+        (λ (k : has_fault g.more ≡ true). rose_from source.faults (told old.lines.source).faults (told new.lines.source).faults (g.cause k) f.counts)
         (fault_of (given old) g.more (given new) g.all h);
-    told = λ h. let p = sound_parts (given old) g.more (ap has_fault (sym g.all) ∙ h) in g.told p.1 ∙ f.told p.0;
+    spares = λ h. let p = sound_parts (given old) g.more (ap has_fault (sym g.all) ∙ h) in g.spares p.1 ∙ f.spares p.0;
     counts = omega (arith, f.counts, g.counts);
   }
 
   -- a feed that came back, having offered these items
-  pub came_back : (source : S) (feed end : Feed S) (back : S) (offers : List Item) (over : Type 0) → IsFrom left faults source feed → GoesOn left faults feed end
-      → back ≡ end.lines.source → offers ≡ offered end.mouth → over ↔ (is_over end ≡ true) → CameBack left faults source back offers over
+  pub came_back : (source : PlainSource) (feed end : Feed S) (back : S) (offers : List Item) (over : Type 0) → IsFrom told source feed → GoesOn told feed end
+      → back ≡ end.lines.source → offers ≡ offered end.mouth → over ↔ (is_over end ≡ true) → CameBack source (told back) offers over
   came_back source feed end back offers over from g e a o =
-      let f : IsFrom left faults source end = from_on source feed end from g in
-      let last : has_last offers ≡ is_over end = ap has_last a ∙ over_is_last left (left source) end f.stands in
+      let f : IsFrom told source end = from_on source feed end from g in
+      let last : has_last offers ≡ is_over end = ap has_last a ∙ over_is_last told source.left end f.stands in
       record {
-        begins = subst (λ x. BeginsItems (left source) (left back) x) (sym a) (subst (λ y. BeginsItems (left source) (left y) (offered end.mouth)) (sym e) (begins left (left source) end f.stands));
+        begins = subst (λ x. BeginsItems source.left (told back).left x) (sym a) (subst (λ y. BeginsItems source.left (told y).left (offered end.mouth)) (sym e) (begins told source.left end f.stands));
         last = (λ (t : over). last ∙ o.0 t, λ (h : has_last offers ≡ true). o.1 (sym last ∙ h));
         cause = λ h.
             let all : has_fault (given end) ≡ true =
             list_any-append is_fault (offered end.mouth) (option_to_list end.kept) ∙ or_left (has_fault (offered end.mouth)) (has_fault (option_to_list end.kept)) (ap has_fault (sym a) ∙ h) in
-            subst (λ y. Rose (faults source) (faults y)) (sym e) (f.cause all);
-        told = λ l h. ap faults e ∙ f.told (over_sound end (sym last ∙ l) (ap has_fault (sym a) ∙ h));
-        counts = omega (arith, f.counts, ap faults e);
+            subst (λ y. Rose source.faults (told y).faults) (sym e) (f.cause all);
+        spares = λ l h. ap (λ y. (told y).faults) e ∙ f.spares (over_sound end (sym last ∙ l) (ap has_fault (sym a) ∙ h));
+        counts = omega (arith, f.counts, ap (λ y. (told y).faults) e);
       }

@@ -2,6 +2,7 @@
 use Rattle.std.specs.Prelude.{◌≡◌, ◌≤◌, ◌↔◌, ℕ, Bool, true, false, List, [], ◌∷◌, Option}
 use Rattle.rtrb.specs.Ring.{sent, received, IsPair}
 use Rattle.bp_base.specs.Counts.{Rose}
+use Rattle.bp_base.specs.Outside.{PlainSource}
 use Rattle.bp_log.specs.declared.item.Item.{Item}
 use Rattle.bp_lanes.specs.declared.ends.Ear.{Ear}
 use Rattle.bp_lanes.specs.Lanes.{IsLane}
@@ -45,20 +46,18 @@ module _ {S : Type 0} where
     pub nothing : given feed ≡ []
 
   -- the feed gives the items of this source, and a fault is among them exactly where it failed
-  pub record IsFrom (left : S → Option (List ℕ)) (faults : S → ℕ) (source : S) (feed : Feed S)
-      : Type 0 where
-    pub stands : StandsTo left (left source) [] feed
-    pub cause : has_fault (given feed) ≡ true → Rose (faults source) (faults feed.lines.source)
-    pub told : has_fault (given feed) ≡ false → faults feed.lines.source ≡ faults source
-    pub counts : faults source ≤ faults feed.lines.source
+  pub record IsFrom (told : S → PlainSource) (source : PlainSource) (feed : Feed S) : Type 0 where
+    pub stands : StandsTo told source.left [] feed
+    pub cause : has_fault (given feed) ≡ true → Rose source.faults (told feed.lines.source).faults
+    pub spares : has_fault (given feed) ≡ false → (told feed.lines.source).faults ≡ source.faults
+    pub counts : source.faults ≤ (told feed.lines.source).faults
 
-  -- The source came back, and these are all the items that were offered: they begin those of its bytes;
-  -- the injector is over exactly where the last of them was offered; a fault is among them only where
-  -- the source failed; and where the last was offered and none is a fault, its count of faults stayed.
-  pub record CameBack (left : S → Option (List ℕ)) (faults : S → ℕ) (source back : S)
-      (offers : List Item) (over : Type 0) : Type 0 where
-    pub begins : BeginsItems (left source) (left back) offers
-    pub last : over ↔ (has_last offers ≡ true)
-    pub cause : has_fault offers ≡ true → Rose (faults source) (faults back)
-    pub told : has_last offers ≡ true → has_fault offers ≡ false → faults back ≡ faults source
-    pub counts : faults source ≤ faults back
+-- The source came back, and these are all the items that were offered: they begin those of its bytes;
+-- the injector is over exactly where the last of them was offered; a fault is among them only where
+-- the source failed; and where the last was offered and none is a fault, its count of faults stayed.
+pub record CameBack (source back : PlainSource) (offers : List Item) (over : Type 0) : Type 0 where
+  pub begins : BeginsItems source.left back.left offers
+  pub last : over ↔ (has_last offers ≡ true)
+  pub cause : has_fault offers ≡ true → Rose source.faults back.faults
+  pub spares : has_last offers ≡ true → has_fault offers ≡ false → back.faults ≡ source.faults
+  pub counts : source.faults ≤ back.faults

@@ -63,10 +63,10 @@ pub fn inject<S: Source, W: Wake, R: Threads + Wait + Sync>(
     wake: &mut W,
 ) -> Result<Injected, Memory>
     requires { is_over feed.old ≡ false }
-    ensures goes_on { GoesOn S.left S.faults feed.old feed.new }
-    ensures begins { (start : Option (List ℕ)) → StandsTo S.left start [] feed.old
-        → BeginsItems start (S.left feed.new.lines.source) (offered feed.new.mouth) }
-    ensures last { (start : Option (List ℕ)) → StandsTo S.left start [] feed.old
+    ensures goes_on { GoesOn S.told feed.old feed.new }
+    ensures begins { (start : Option (List ℕ)) → StandsTo S.told start [] feed.old
+        → BeginsItems start (S.told feed.new.lines.source).left (offered feed.new.mouth) }
+    ensures last { (start : Option (List ℕ)) → StandsTo S.told start [] feed.old
         → has_last (offered feed.new.mouth) ≡ is_over feed.new }
 
     ensures over { (result ≡ Ok Injected.Over) ↔ (is_over feed.new ≡ true) }

@@ -39,7 +39,7 @@ pub(crate) struct Turned<S> {
 pub(crate) struct FromIntake<S>(pub(crate) Snapshot<Consumer<Feed<S>, Global, NotOver>>);
 
 impl<S: Source> Promise<Turned<S>> for FromIntake<S> {
-    ghost kept_by = { λ p r. IsTurned S.left S.faults p.0.value r };
+    ghost kept_by = { λ p r. IsTurned S.told p.0.value r };
 }
 
 /// Waits for a feed, and makes its turns.
@@ -48,7 +48,7 @@ pub(crate) fn take_and_turn<S: Source, R: Threads + Wait + Sync>(
     bell: &Bell,
     mut intake: Consumer<Feed<S>, Global, NotOver>,
 ) -> Turned<S>
-    ensures { IsTurned S.left S.faults intake result }
+    ensures { IsTurned S.told intake result }
 {
     let mut rope = Rope::new(bell);
     for _ in rt.forever() {

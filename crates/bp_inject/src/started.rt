@@ -2,6 +2,7 @@
 ghost use Rattle.std.specs.Prelude.{◌≡◌, ◌↔◌, [], ◌++◌, Ok, true, false, IfSome, IsErr};
 ghost use Rattle.bp_lanes.specs.Lanes.{offered, taken, known, is_closed, IsLane, IsSameEar};
 ghost use Rattle.bp_feeds.specs.Feeds.{GoesOn, is_over};
+ghost use Rattle.bp_base.specs.Outside.{PlainSource};
 ghost use Rattle.bp_inject.specs.Injectors.{feed_of, is_running, IsHanded, IsTied, IsUnread, IsFrom, CameBack};
 
 use crate::berth::Berth;
@@ -62,7 +63,7 @@ pub fn start<'s, S: Source + Send + Drop + 's, R: Threads + Wait + Sync, E>(
 ) -> (Started<S>, Ear)
     ensures tied { IsTied result.0 result.1 }
     ensures unread { IsUnread source (feed_of result.0) }
-    ensures from { IsFrom S.left S.faults source (feed_of result.0) }
+    ensures from { IsFrom S.told (S.told source) (feed_of result.0) }
     ensures ear { (taken result.1 ≡ []) × (is_closed result.1 ≡ false) }
 {
     let Berth {
@@ -92,7 +93,7 @@ impl<S: Source + Drop> Running<S> {
     /// The feed as the thread left it, and what `inject` answered there.
     fn joined<R: Threads>(self, rt: &R) -> (Feed<S>, Result<Injected, Memory>)
         requires { IsHanded self }
-        ensures on { GoesOn S.left S.faults self.feed.value result.0 }
+        ensures on { GoesOn S.told self.feed.value result.0 }
         ensures over { (result.1 ≡ Ok Injected.Over) ↔ (is_over result.0 ≡ true) }
     {
         let Running {
@@ -127,8 +128,8 @@ pub fn join<S: Source + Drop, R: Threads>(
     ensures ear { IsSameEar ear.old ear.new × (taken ear.new ≡ taken ear.old) }
     ensures closed { is_closed ear.new ≡ true }
     ensures memory { IsErr result.1 → is_running started ≡ true }
-    ensures back { (source : S) → IsFrom S.left S.faults source (feed_of started)
-        → CameBack S.left S.faults source result.0 (taken ear.new ++ known ear.new)
+    ensures back { (source : PlainSource) → IsFrom S.told source (feed_of started)
+        → CameBack source (S.told result.0) (taken ear.new ++ known ear.new)
         (result.1 ≡ Ok Injected.Over) }
 {
     match started {

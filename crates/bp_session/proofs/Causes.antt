@@ -3,7 +3,7 @@ use Rattle.std.proofs.Common.{◌≡◌, ◌∙◌, arith, refl, ap, sym, subst,
 use Rattle.std.specs.Prelude.{Result, Ok, Err, IfSome, IsErrOf, IsErrAnd}
 use Rattle.bp_base.specs.Counts.{Rose}
 use Rattle.bp_base.specs.declared.outside.Sink.{Ghosts}
-use Rattle.bp_feeds.proofs.Going.{rose_from, rose_on}
+use Rattle.bp_base.proofs.Following.{rose_from, rose_on}
 use Rattle.bp_told.specs.Logging.{LogFails, LogStays}
 use Rattle.bp_told.specs.declared.fault.RunFault.{RunFault}
 use Rattle.bp_told.specs.declared.fault.RunFault.TheVariants.{Write, LogWrite, Memory}

@@ -130,17 +130,10 @@ pub struct FileWorld<R: Files<File = File> + Drop> {
 }
 
 impl<R: Files<File = File> + Drop> FileWorld<R> {
-<<<<<<< HEAD:crates/bp_system/src/files.rt
     /// The files that the runtime reaches, none of which was opened or has failed.
     pub fn new(rt: R, alloc: Global) -> FileWorld<R>
-        ensures read { ⟦<FileWorld<R> as World>⟧.read_faults result ≡ 0 }
-        ensures written { ⟦<FileWorld<R> as World>⟧.write_faults result ≡ 0 }
-=======
-    /// The files that the runtime reaches, none of which has failed.
-    pub fn new(rt: R) -> FileWorld<R>
         ensures read { (⟦<FileWorld<R> as World>⟧.told result).read_faults ≡ 0 }
         ensures written { (⟦<FileWorld<R> as World>⟧.told result).write_faults ≡ 0 }
->>>>>>> 61a94771 (stack trial):crates/bp_base/src/system.rt
     {
         FileWorld {
             rt,
@@ -201,7 +194,14 @@ impl<R: Files<File = File> + Drop> World for FileWorld<R> {
 
     ghost use Rattle.std.specs.Prelude.{None};
 
-    ghost told = { λ w. record { holds = None; asked = None; read_faults = w.read_faults; write_faults = w.write_faults } };
+    ghost told = { λ w. record {
+      holds = None;
+      asked = None;
+      opened = None;
+      made = None;
+      read_faults = w.read_faults;
+      write_faults = w.write_faults;
+    } };
 
     fn open(&mut self, name: &str) -> Result<FileSource, WorldError> {
         self.opened.reserve(1)?;

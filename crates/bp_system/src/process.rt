@@ -72,9 +72,9 @@ impl<R: Files<File = File> + Env + AllocGlobal + Clone + Drop> Process<R> {
     /// That of the program that begins now and has opened nothing. No file of it has failed.
     pub fn begin(rt: &R) -> Result<Process<R>, StartError>
         ensures read { IfOk result
-            (λ process. ⟦<FileWorld<R> as World>⟧.read_faults process.world ≡ 0) }
+            (λ process. (⟦<FileWorld<R> as World>⟧.told process.world).read_faults ≡ 0) }
         ensures written { IfOk result
-            (λ process. ⟦<FileWorld<R> as World>⟧.write_faults process.world ≡ 0) }
+            (λ process. (⟦<FileWorld<R> as World>⟧.told process.world).write_faults ≡ 0) }
     {
         let streams = match StandardStreams::occupy(rt) {
             Ok(streams) => streams,

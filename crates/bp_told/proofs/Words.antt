@@ -9,10 +9,11 @@ use Rattle.bp_log.specs.declared.record.Record.{Record}
 use Rattle.bp_log.specs.declared.trace.Line.{Line}
 use Rattle.bp_told.specs.Logging.{OfLog, LogGets, LogGetsFront, LogHolds, LogShows, LogShowsFront, LogFails}
 use Rattle.bp_base.specs.Outside.{PlainSink, Lasts}
+use Rattle.bp_base.proofs.Following.{rose_from, rose_on, lasts_same, lasts_on}
 use Rattle.bp_told.specs.Outlets.{PlainOutlets}
 use Rattle.bp_told.specs.Pages.{Shows, ShowsFront}
 use Rattle.bp_told.specs.Told.{WritesPart}
-use Rattle.bp_told.specs.Words.{GoesOn, IsCaused, BreaksPage, BreaksLog, Records, BreaksRecords, Prints, BreaksPrints, Writes, BreaksWrites, Tells, BreaksTelling, Flushes, BreaksFlushing}
+use Rattle.bp_told.specs.Words.{OutletsLast, IsCaused, BreaksPage, BreaksLog, AddsRecords, BreaksRecords, PrintsText, BreaksText, WritesWaiting, BreaksWriting, Tells, BreaksTelling, Flushes, BreaksFlushing}
 use Rattle.bp_told.specs.declared.fault.RunFault.{RunFault}
 use Rattle.bp_told.specs.declared.fault.RunFault.TheVariants.{Write, LogWrite, Memory}
 use Rattle.bp_told.specs.declared.telling.Telling.{Telling}
@@ -22,20 +23,11 @@ use Rattle.bp_told.proofs.Told.{comes_less, recorded, record_broke, printed_on, 
 
 -- ---- what lasts, and what a fault comes of
 
-rose_from : (a b c : ℕ) → Rose b c → a ≤ b → Rose a c
-rose_from a b c r from = grind arith
+pub outlets_same : (a : PlainOutlets) → OutletsLast a a
+outlets_same a = record { out = lasts_same a.out; log = log_at_once Lasts lasts_same a.log; out_same = refl; log_same = refl }
 
-lasts_same : (a : PlainSink) → Lasts a a
-lasts_same a = record { counts = omega arith; named = refl }
-
-lasts_on : (a b c : PlainSink) → Lasts a b → Lasts b c → Lasts a c
-lasts_on a b c s t = record { counts = let m = s.counts in let n = t.counts in omega (arith, m, n); named = t.named ∙ s.named }
-
-pub goes_same : (a : PlainOutlets) → GoesOn a a
-goes_same a = record { out = lasts_same a.out; log = log_at_once Lasts lasts_same a.log; out_same = refl; log_same = refl }
-
-pub goes_on : (a b c : PlainOutlets) → GoesOn a b → GoesOn b c → GoesOn a c
-goes_on a b c s t =
+pub outlets_on : (a b c : PlainOutlets) → OutletsLast a b → OutletsLast b c → OutletsLast a c
+outlets_on a b c s t =
     record {
       out = lasts_on a.out b.out c.out s.out t.out;
       log = log_then_on Lasts Lasts Lasts lasts_on a.log b.log c.log s.log t.log;
@@ -50,10 +42,21 @@ fails_from (Some x) None c s f = absurd s
 fails_from (Some x) (Some m) None s f = absurd f
 fails_from (Some x) (Some m) (Some n) s f = rose_from x.faults m.faults n.faults f s.counts
 
-pub caused_later : (a b c : PlainOutlets) (f : RunFault) → GoesOn a b → IsCaused b c f → IsCaused a c f
+pub caused_later : (a b c : PlainOutlets) (f : RunFault) → OutletsLast a b → IsCaused b c f → IsCaused a c f
 caused_later a b c Write g h = rose_from a.out.faults b.out.faults c.out.faults h g.out.counts
 caused_later a b c LogWrite g h = fails_from a.log b.log c.log g.log h
 caused_later a b c Memory g h = tt
+
+fails_still : (a b c : Option PlainSink) → OfLog Lasts a b → OfLog Lasts b c → LogFails a b → LogFails a c
+fails_still None b c s t f = absurd f
+fails_still (Some x) None c s t f = absurd f
+fails_still (Some x) (Some m) None s t f = absurd t
+fails_still (Some x) (Some m) (Some n) s t f = rose_on x.faults m.faults n.faults f s.counts t.counts
+
+pub caused_still : (a b c : PlainOutlets) (f : RunFault) → OutletsLast a b → OutletsLast b c → IsCaused a b f → IsCaused a c f
+caused_still a b c Write g h k = rose_on a.out.faults b.out.faults c.out.faults k g.out.counts h.out.counts
+caused_still a b c LogWrite g h k = fails_still a.log b.log c.log g.log h.log k
+caused_still a b c Memory g h k = tt
 
 -- ---- pages
 
@@ -88,7 +91,7 @@ not_memory_out f e h = cc
 -- ---- all that waits is written
 
 pub keep_breaks : (old new : PlainOutlets) (before after : Telling) (f : RunFault) → new.out ≡ old.out → after.lines ≡ before.lines → after.records ≡ [] → after.kept ≡ before.kept →
-    BreaksLog old before.records new f → BreaksWrites old before new after f
+    BreaksLog old before.records new f → BreaksWriting old before new after f
 keep_breaks old new before after f o l r k b =
     record {
       out = shows_stop old.out.written new.out.written before.lines after.lines [] before.lines (sym (append-nil before.lines)) (shows_still old.out new.out before.lines after.lines o l);
@@ -101,7 +104,7 @@ keep_breaks old new before after f o l r k b =
     }
 
 pub print_breaks : (old mid new : PlainOutlets) (before after : Telling) (f : RunFault) → mid.out ≡ old.out → new.log ≡ mid.log → after.lines ≡ [] → after.records ≡ [] → after.kept ≡ before.kept →
-    LogGets old.log before.records mid.log → BreaksPage mid before.lines new f → BreaksWrites old before new after f
+    LogGets old.log before.records mid.log → BreaksPage mid before.lines new f → BreaksWriting old before new after f
 print_breaks old mid new before after f o g l r k w b =
     let got : LogGets old.log before.records new.log = subst (λ (x : Option PlainSink). LogGets old.log before.records x) (sym g) w in
     let shown = log_all_shows old.log new.log before.records after.records r got in
@@ -145,7 +148,7 @@ keep_records_breaks all old new before after page f o l r s b =
 -- ---- lines
 
 pub line_breaks : (more : List ℕ) (old : PlainOutlets) (before after : Telling) → after.records ≡ before.records → after.kept ≡ before.kept → AppendsFront (Some before.lines) more (Some after.lines) →
-    BreaksPrints (before.lines ++ more) old before old after Memory
+    BreaksText (before.lines ++ more) old before old after Memory
 line_breaks more old before after r k f =
     let still = log_still old.log old.log before.records after.records refl r in
     record {
@@ -158,8 +161,8 @@ line_breaks more old before after r k f =
       cause = tt;
     }
 
-pub prints_none : (o : PlainOutlets) (w : Telling) → Prints (w.lines ++ lines_text []) o w o w
-prints_none o w = record { out = shows_none o.out.written w.lines; log = log_shows_page o.log w.records; behind = inl refl; kept = refl }
+pub prints_none : (o : PlainOutlets) (w : Telling) → PrintsText (w.lines ++ lines_text []) o w o w
+prints_none o w = record { out = shows_none o.out.written w.lines; log = log_shows_page o.log w.records; behind = inl refl; within = λ h. h; kept = refl }
 
 behind_then : (a b c : PlainOutlets) (text page next : List ℕ) → ((b.out.written ≡ a.out.written) ⊎ LogHolds a.log text b.log) → LogShows a.log text page b.log →
     ((c.out.written ≡ b.out.written) ⊎ LogHolds b.log page c.log) → LogShowsFront b.log page next c.log → (c.out.written ≡ a.out.written) ⊎ LogHolds a.log text c.log
@@ -167,17 +170,18 @@ behind_then a b c text page next (inl e) s (inl f) t = inl (f ∙ e)
 behind_then a b c text page next (inr h) s (inl f) t = inr (log_holds_on a.log b.log c.log text page next h t)
 behind_then a b c text page next h s (inr g) t = inr (log_holds_shown a.log b.log c.log text page s g)
 
-pub prints_on : (a b c : PlainOutlets) (u v w : Telling) (text more whole : List ℕ) → whole ≡ text ++ more → Prints text a u b v → Prints (v.lines ++ more) b v c w → Prints whole a u c w
+pub prints_on : (a b c : PlainOutlets) (u v w : Telling) (text more whole : List ℕ) → whole ≡ text ++ more → PrintsText text a u b v → PrintsText (v.lines ++ more) b v c w → PrintsText whole a u c w
 prints_on a b c u v w text more whole e p q =
     record {
       out = shows_on a.out.written b.out.written c.out.written text v.lines more (v.lines ++ more) w.lines whole refl e p.out q.out;
       log = log_on a.log b.log c.log u.records v.records w.records p.log q.log;
       behind = behind_then a b c u.records v.records w.records p.behind p.log q.behind (log_stop b.log c.log v.records w.records q.log);
+      within = λ h. q.within (p.within h);
       kept = q.kept ∙ p.kept;
     }
 
-pub prints_break : (a b c : PlainOutlets) (u v w : Telling) (text more rest whole : List ℕ) (f : RunFault) → whole ≡ text ++ (more ++ rest) → GoesOn a b → Prints text a u b v → BreaksPrints (v.lines ++ more) b v c w f →
-    BreaksPrints whole a u c w f
+pub prints_break : (a b c : PlainOutlets) (u v w : Telling) (text more rest whole : List ℕ) (f : RunFault) → whole ≡ text ++ (more ++ rest) → OutletsLast a b → PrintsText text a u b v → BreaksText (v.lines ++ more) b v c w f →
+    BreaksText whole a u c w f
 prints_break a b c u v w text more rest whole f e g p q =
     record {
       out = front_on a.out.written b.out.written c.out.written text v.lines more rest (v.lines ++ more) w.lines whole refl e p.out q.out;
@@ -191,16 +195,17 @@ prints_break a b c u v w text more rest whole f e g p q =
 -- ---- the public calls
 
 module _ {T : Type 0} (all : List Record) (more : List Line) (old mid new : PlainOutlets) (a b d : Telling) where
-  pub tells_then : (r : Result T RunFault) → Records all old a mid b → OnOk r (Prints (b.lines ++ lines_text more) mid b new d) → b.kept ≡ length all → OnOk r (Tells all more old a new d)
+  pub tells_then : (r : Result T RunFault) → AddsRecords all old a mid b → OnOk r (PrintsText (b.lines ++ lines_text more) mid b new d) → b.kept ≡ length all → OnOk r (Tells all more old a new d)
   tells_then (Err x) s p k = tt
   tells_then (Ok v) s p k =
       record {
         tells = λ text head first lines t c.
             printed_on text head first mid new b d all lines more (recorded text head first old mid a b all lines t (comes_less text all lines more c) (ap (λ (x : PlainSink). x.written) s.out) s.lines s.kept s.log) c p.out p.log p.behind p.kept;
+        within = λ h. p.within (rw s.lines (h.0, s.within));
         kept = p.kept ∙ k;
       }
 
-  pub breaks_then : (r : Result T RunFault) → GoesOn old mid → Records all old a mid b → IfErr r (BreaksPrints (b.lines ++ lines_text more) mid b new d) → IfErr r (BreaksTelling all more old a new d)
+  pub breaks_then : (r : Result T RunFault) → OutletsLast old mid → AddsRecords all old a mid b → IfErr r (BreaksText (b.lines ++ lines_text more) mid b new d) → IfErr r (BreaksTelling all more old a new d)
   breaks_then (Ok v) g s p = tt
   breaks_then (Err x) g s p =
       record {
@@ -216,7 +221,7 @@ record_breaks all more old new a b f s =
       cause = s.cause;
     }
 
-pub flushes : {T : Type 0} (r : Result T RunFault) (old new : PlainOutlets) (a b : Telling) → OnOk r (Writes old a new b) → OnOk r (Flushes old a new b)
+pub flushes : {T : Type 0} (r : Result T RunFault) (old new : PlainOutlets) (a b : Telling) → OnOk r (WritesWaiting old a new b) → OnOk r (Flushes old a new b)
 flushes (Err x) old new a b w = tt
 flushes (Ok v) old new a b w =
     record {
@@ -226,7 +231,7 @@ flushes (Ok v) old new a b w =
       nothing = w.nothing;
     }
 
-pub flushes_part : {T : Type 0} (r : Result T RunFault) (old new : PlainOutlets) (a b : Telling) → OnOk r (Writes old a new b) → IfErr r (BreaksWrites old a new b) → WritesPart old a new
+pub flushes_part : {T : Type 0} (r : Result T RunFault) (old new : PlainOutlets) (a b : Telling) → OnOk r (WritesWaiting old a new b) → IfErr r (BreaksWriting old a new b) → WritesPart old a new
 flushes_part (Ok v) old new a b w x = λ text head first rs lines fault n t.
     flushed_part text head first old new a b.records rs lines fault n t (a.lines, [], sym (append-nil a.lines), w.out)
     (log_stop old.log new.log a.records b.records (log_all_shows old.log new.log a.records b.records w.nothing.1 w.log)) (inr w.log)

@@ -11,37 +11,17 @@ use Rattle.bp_told.specs.Outlets.{PlainOutlets}
 use Rattle.bp_told.specs.Pages.{Shows, ShowsFront}
 use Rattle.bp_told.specs.declared.fault.RunFault.{RunFault}
 use Rattle.bp_told.specs.declared.fault.RunFault.TheVariants.{LogWrite}
-<<<<<<< HEAD
 use Rattle.bp_told.specs.declared.page.TheConstants.{FULL}
-
--- what waits to be written: lines for the output, and text for the log; and how many records were told
-pub record Waiting : Type 0 where
-  pub lines : List ℕ
-  pub records : List ℕ
-  pub kept : ℕ
-=======
 use Rattle.bp_told.specs.declared.telling.Telling.{Telling}
->>>>>>> 61a94771 (stack trial)
 
 -- nothing waits to be written
 abbrev pub NothingWaits : Telling → Type 0
 NothingWaits w = (w.lines ≡ []) × (w.records ≡ [])
 
-<<<<<<< HEAD
 -- less waits for either than what is written at once
-abbrev pub IsWithin : Waiting → Type 0
+abbrev pub IsWithin : Telling → Type 0
 IsWithin w = (length w.lines < FULL) × (length w.records < FULL)
 
--- what an output was given, where it tells that, and the log, where one is kept
-pub record Given (L : Type 0) : Type 0 where
-  pub printed : Option (List ℕ)
-  pub log : Option L
-
-abbrev pub given : {K L : Type 0} → (K → Option (List ℕ)) → K → Option L → Given L
-given written out log = record { printed = written out; log = log }
-
-=======
->>>>>>> 61a94771 (stack trial)
 -- these lines come of the records: the text of the records begins with theirs
 abbrev pub ComesOf : Texts → List Record → List Line → Type 0
 ComesOf text records lines = (rest : List ℕ) × (text records ≡ Some (lines_text lines ++ rest))

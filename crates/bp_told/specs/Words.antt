@@ -1,5 +1,5 @@
 -- What each call does to the outlets and to what waits: in full, or up to where it broke off.
-use Rattle.std.specs.Prelude.{◌≡◌, ◌⊎◌, ◌≤◌, ℕ, List, [], ◌++◌, length, drop}
+use Rattle.std.specs.Prelude.{◌≡◌, ◌⊎◌, ◌<◌, ℕ, List, [], ◌++◌, length, drop}
 use Rattle.bp_base.specs.Counts.{Rose}
 use Rattle.bp_base.specs.Pieces.{Appends, AppendsFront}
 use Rattle.bp_log.specs.Logs.{records_text}
@@ -9,13 +9,14 @@ use Rattle.bp_told.specs.Logging.{OfLog, LogGets, LogGetsFront, LogHolds, LogSho
 use Rattle.bp_base.specs.Outside.{PlainSink, Lasts}
 use Rattle.bp_told.specs.Outlets.{PlainOutlets}
 use Rattle.bp_told.specs.Pages.{Shows, ShowsFront}
-use Rattle.bp_told.specs.Told.{TellsOn, BreaksOff, WritesAll, WritesOut, NothingWaits}
+use Rattle.bp_told.specs.Told.{TellsOn, BreaksOff, WritesAll, WritesOut, NothingWaits, IsWithin}
+use Rattle.bp_told.specs.declared.page.TheConstants.{FULL}
 use Rattle.bp_told.specs.declared.fault.RunFault.{RunFault}
 use Rattle.bp_told.specs.declared.fault.RunFault.TheVariants.{Write, LogWrite, Memory}
 use Rattle.bp_told.specs.declared.telling.Telling.{Telling}
 
 -- whatever came of a call: they are the same two outlets
-pub record GoesOn (old new : PlainOutlets) : Type 0 where
+pub record OutletsLast (old new : PlainOutlets) : Type 0 where
   pub out : Lasts old.out new.out
   pub log : OfLog Lasts old.log new.log
   pub out_same : new.out_name ≡ old.out_name
@@ -46,12 +47,13 @@ pub record BreaksLog (old : PlainOutlets) (page : List ℕ) (new : PlainOutlets)
 -- ---- records, and lines
 
 -- the records after those that are kept were put on the page of the log, or written
-pub record Records (all : List Record) (old : PlainOutlets) (before : Telling) (new : PlainOutlets)
+pub record AddsRecords (all : List Record) (old : PlainOutlets) (before : Telling) (new : PlainOutlets)
     (after : Telling) : Type 0 where
   pub out : new.out ≡ old.out
   pub lines : after.lines ≡ before.lines
   pub kept : after.kept ≡ length all
   pub log : LogShows old.log (before.records ++ records_text (drop before.kept all)) after.records new.log
+  pub within : length after.records < FULL
 
 -- or that broke off
 pub record BreaksRecords (all : List Record) (old : PlainOutlets) (before : Telling)
@@ -64,15 +66,16 @@ pub record BreaksRecords (all : List Record) (old : PlainOutlets) (before : Tell
   pub cause : IsCaused old new fault
 
 -- the text, which begins with the lines that waited, was written or waits; no line before its record
-pub record Prints (text : List ℕ) (old : PlainOutlets) (before : Telling) (new : PlainOutlets)
+pub record PrintsText (text : List ℕ) (old : PlainOutlets) (before : Telling) (new : PlainOutlets)
     (after : Telling) : Type 0 where
   pub out : Shows old.out.written text after.lines new.out.written
   pub log : LogShows old.log before.records after.records new.log
   pub behind : (new.out.written ≡ old.out.written) ⊎ LogHolds old.log before.records new.log
+  pub within : IsWithin before → IsWithin after
   pub kept : after.kept ≡ before.kept
 
 -- or that broke off
-pub record BreaksPrints (text : List ℕ) (old : PlainOutlets) (before : Telling) (new : PlainOutlets)
+pub record BreaksText (text : List ℕ) (old : PlainOutlets) (before : Telling) (new : PlainOutlets)
     (after : Telling) (fault : RunFault) : Type 0 where
   pub out : ShowsFront old.out.written text after.lines new.out.written
   pub log : LogShowsFront old.log before.records after.records new.log
@@ -82,7 +85,7 @@ pub record BreaksPrints (text : List ℕ) (old : PlainOutlets) (before : Telling
   pub cause : IsCaused old new fault
 
 -- all that waited was written
-pub record Writes (old : PlainOutlets) (before : Telling) (new : PlainOutlets) (after : Telling)
+pub record WritesWaiting (old : PlainOutlets) (before : Telling) (new : PlainOutlets) (after : Telling)
     : Type 0 where
   pub out : Appends old.out.written before.lines new.out.written
   pub log : LogGets old.log before.records new.log
@@ -90,7 +93,7 @@ pub record Writes (old : PlainOutlets) (before : Telling) (new : PlainOutlets) (
   pub kept : after.kept ≡ before.kept
 
 -- or that broke off
-pub record BreaksWrites (old : PlainOutlets) (before : Telling) (new : PlainOutlets) (after : Telling)
+pub record BreaksWriting (old : PlainOutlets) (before : Telling) (new : PlainOutlets) (after : Telling)
     (fault : RunFault) : Type 0 where
   pub out : ShowsFront old.out.written before.lines after.lines new.out.written
   pub log : LogShowsFront old.log before.records after.records new.log
@@ -106,6 +109,7 @@ pub record BreaksWrites (old : PlainOutlets) (before : Telling) (new : PlainOutl
 pub record Tells (all : List Record) (more : List Line) (old : PlainOutlets) (before : Telling)
     (new : PlainOutlets) (after : Telling) : Type 0 where
   pub tells : TellsOn all more old before new after
+  pub within : IsWithin before → IsWithin after
   pub kept : after.kept ≡ length all
 
 -- or that broke off

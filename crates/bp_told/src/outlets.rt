@@ -3,7 +3,7 @@ ghost use Rattle.std.specs.Prelude.{◌≡◌, [], is_some, option_map, OnOk, On
 ghost use Rattle.bp_base.specs.Outside.{Lasts};
 ghost use Rattle.bp_base.specs.Pieces.{Appends};
 ghost use Rattle.bp_told.specs.Logging.{OfLog, LogGets, LogGetsFront, LogFails};
-ghost use Rattle.bp_told.specs.Words.{GoesOn, BreaksPage, BreaksLog};
+ghost use Rattle.bp_told.specs.Words.{OutletsLast, BreaksPage, BreaksLog};
 
 use crate::RunFault;
 use crate::page::Page;
@@ -31,7 +31,7 @@ impl<'a, 'b, K: Sink, L: Sink> Model for Outlets<'a, 'b, K, L> {
     } };
 }
 
-/// Writes the page to the log, where one is kept, and then nothing waits on it.
+/// WritesWaiting the page to the log, where one is kept, and then nothing waits on it.
 fn write_log<L: Sink>(log: &mut Option<L>, page: &mut Page) -> Result<(), Failed>
     ensures emptied { page.new ≡ [] }
     ensures whole { OnOk result (LogGets (option_map L.told log.old) page.old
@@ -79,13 +79,13 @@ impl<'a, 'b, K: Sink, L: Sink> Outlets<'a, 'b, K, L> {
         self.log.is_some()
     }
 
-    /// Writes the page to the output, and then nothing waits on it.
+    /// WritesWaiting the page to the output, and then nothing waits on it.
     pub(crate) fn print(&mut self, page: &mut Page) -> Result<(), RunFault>
         ensures emptied { page.new ≡ [] }
         ensures whole { OnOk result (Appends self.old.out.written page.old self.new.out.written) }
         ensures breaks { IfErr result (BreaksPage self.old page.old self.new) }
         ensures log { self.new.log ≡ self.old.log }
-        ensures goes_on { GoesOn self.old self.new }
+        ensures lasts { OutletsLast self.old self.new }
     {
         match page.write(&mut *self.out) {
             Ok(()) => Ok(()),
@@ -93,13 +93,13 @@ impl<'a, 'b, K: Sink, L: Sink> Outlets<'a, 'b, K, L> {
         }
     }
 
-    /// Writes the page to the log, where one is kept, and then nothing waits on it.
+    /// WritesWaiting the page to the log, where one is kept, and then nothing waits on it.
     pub(crate) fn keep(&mut self, page: &mut Page) -> Result<(), RunFault>
         ensures emptied { page.new ≡ [] }
         ensures whole { OnOk result (LogGets self.old.log page.old self.new.log) }
         ensures breaks { IfErr result (BreaksLog self.old page.old self.new) }
         ensures out { self.new.out ≡ self.old.out }
-        ensures goes_on { GoesOn self.old self.new }
+        ensures lasts { OutletsLast self.old self.new }
     {
         match write_log(&mut *self.log, page) {
             Ok(()) => Ok(()),

@@ -1,6 +1,7 @@
-use Rattle.std.proofs.Common.{ℕ, ◌≤◌, ◌-◌, ◌∙◌, length, arith, length-drop, length-take}
+use Rattle.std.proofs.Common.{ℕ, ◌≤◌, ◌-◌, length, arith, length-drop, length-take}
 use Rattle.std.proofs.lemmas.Result.{err_from_is_err_and}
-use Rattle.bp_base.proofs.Appending.{take-part, appends-on, appends_front, rose_from}
+use Rattle.bp_base.proofs.Appending.{take-part, appends-on, appends_front}
+use Rattle.bp_base.proofs.Following.{rose_from, lasts_on}
 use Rattle.bp_base.proofs.moving.write_all.Goals as goal
 
 pub loop-done-preserved : goal.loop-done-preserved
@@ -9,10 +10,7 @@ loop-done-preserved g c =
     record {
       so_far = rw (take-part c.args.bytes.now c.loop-done.done c.in_ok-done.field-0 part)
           (appends-on _ _ _ _ _ c.loop-done.invariant.so_far c.in_ok-done.ensures.takes.appended);
-      lasts = record {
-        counts = let a = c.write.ensures.lasts.counts in let b = c.loop-done.invariant.lasts.counts in omega (arith, a, b);
-        named = c.write.ensures.lasts.named ∙ c.loop-done.invariant.lasts.named;
-      };
+      lasts = lasts_on _ _ _ c.loop-done.invariant.lasts c.write.ensures.lasts;
       within = omega (arith, part);
     }
 

@@ -7,35 +7,35 @@ use Rattle.bp_inject.proofs.injecting.inject.Goals as goal
 
 pub returns-then-halted-clause-begins : goal.returns-then-halted-clause-begins
 returns-then-halted-clause-begins g c = λ start s.
-    begins g.S.Source.left start c.loop.feed (stands_on g.S.Source.left g.S.Source.faults start [] c.args.feed.now c.loop.feed c.loop.invariant.goes_on s)
+    begins g.S.Source.told start c.loop.feed (stands_on g.S.Source.told start [] c.args.feed.now c.loop.feed c.loop.invariant.goes_on s)
 
 pub returns-then-halted-clause-last : goal.returns-then-halted-clause-last
 returns-then-halted-clause-last g c = λ start s.
-    over_is_last g.S.Source.left start c.loop.feed (stands_on g.S.Source.left g.S.Source.faults start [] c.args.feed.now c.loop.feed c.loop.invariant.goes_on s)
+    over_is_last g.S.Source.told start c.loop.feed (stands_on g.S.Source.told start [] c.args.feed.now c.loop.feed c.loop.invariant.goes_on s)
 
 pub returns-in-Ok-Over-clause-begins : goal.returns-in-Ok-Over-clause-begins
 returns-in-Ok-Over-clause-begins g c = λ start s.
-    begins g.S.Source.left start c.turn.new.self (stands_on g.S.Source.left g.S.Source.faults start [] c.loop.feed c.turn.new.self c.turn.ensures.goes_on
-    (stands_on g.S.Source.left g.S.Source.faults start [] c.args.feed.now c.loop.feed c.loop.invariant.goes_on s))
+    begins g.S.Source.told start c.turn.new.self (stands_on g.S.Source.told start [] c.loop.feed c.turn.new.self c.turn.ensures.goes_on
+    (stands_on g.S.Source.told start [] c.args.feed.now c.loop.feed c.loop.invariant.goes_on s))
 
 pub returns-in-Ok-Over-clause-last : goal.returns-in-Ok-Over-clause-last
 returns-in-Ok-Over-clause-last g c = λ start s.
-    over_is_last g.S.Source.left start c.turn.new.self (stands_on g.S.Source.left g.S.Source.faults start [] c.loop.feed c.turn.new.self c.turn.ensures.goes_on
-    (stands_on g.S.Source.left g.S.Source.faults start [] c.args.feed.now c.loop.feed c.loop.invariant.goes_on s))
+    over_is_last g.S.Source.told start c.turn.new.self (stands_on g.S.Source.told start [] c.loop.feed c.turn.new.self c.turn.ensures.goes_on
+    (stands_on g.S.Source.told start [] c.args.feed.now c.loop.feed c.loop.invariant.goes_on s))
 
 pub returns-in-Err-clause-begins : goal.returns-in-Err-clause-begins
 returns-in-Err-clause-begins g c = λ start s.
-    begins g.S.Source.left start c.turn.new.self (stands_on g.S.Source.left g.S.Source.faults start [] c.loop.feed c.turn.new.self c.turn.ensures.goes_on
-    (stands_on g.S.Source.left g.S.Source.faults start [] c.args.feed.now c.loop.feed c.loop.invariant.goes_on s))
+    begins g.S.Source.told start c.turn.new.self (stands_on g.S.Source.told start [] c.loop.feed c.turn.new.self c.turn.ensures.goes_on
+    (stands_on g.S.Source.told start [] c.args.feed.now c.loop.feed c.loop.invariant.goes_on s))
 
 pub returns-in-Err-clause-last : goal.returns-in-Err-clause-last
 returns-in-Err-clause-last g c = λ start s.
-    over_is_last g.S.Source.left start c.turn.new.self (stands_on g.S.Source.left g.S.Source.faults start [] c.loop.feed c.turn.new.self c.turn.ensures.goes_on
-    (stands_on g.S.Source.left g.S.Source.faults start [] c.args.feed.now c.loop.feed c.loop.invariant.goes_on s))
+    over_is_last g.S.Source.told start c.turn.new.self (stands_on g.S.Source.told start [] c.loop.feed c.turn.new.self c.turn.ensures.goes_on
+    (stands_on g.S.Source.told start [] c.args.feed.now c.loop.feed c.loop.invariant.goes_on s))
 
 pub loop-init : goal.loop-init
 loop-init g c = record {
-  goes_on = goes_nowhere g.S.Source.left g.S.Source.faults c.args.feed.now;
+  goes_on = goes_nowhere g.S.Source.told c.args.feed.now;
   going = search rules;
   halts = search rules;
   orders = refl;
@@ -48,7 +48,7 @@ loop-preserved-in-Ok-Went g c =
     let halts : g.W.Wake.halts c.args.wake.now ≤ g.W.Wake.halts c.ring_where-owed.new.wake = search rules in
     let none : c.halted.result ≡ false = search rules in
     record {
-      goes_on = goes_on g.S.Source.left g.S.Source.faults c.args.feed.now c.loop.feed c.turn.new.self c.loop.invariant.goes_on c.turn.ensures.goes_on;
+      goes_on = goes_on g.S.Source.told c.args.feed.now c.loop.feed c.turn.new.self c.loop.invariant.goes_on c.turn.ensures.goes_on;
       going = going;
       halts = halts;
       orders = c.ring_where-owed.ensures.ordered ∙ c.halted.ensures.ordered ∙ c.loop.invariant.orders;
@@ -61,7 +61,7 @@ loop-preserved g c =
     let halts : g.W.Wake.halts c.args.wake.now ≤ g.W.Wake.halts c.ring_and_wait.new.wake = search rules in
     let none : c.halted.result ≡ false = search rules in
     record {
-      goes_on = goes_on g.S.Source.left g.S.Source.faults c.args.feed.now c.loop.feed c.turn.new.self c.loop.invariant.goes_on c.turn.ensures.goes_on;
+      goes_on = goes_on g.S.Source.told c.args.feed.now c.loop.feed c.turn.new.self c.loop.invariant.goes_on c.turn.ensures.goes_on;
       going = going;
       halts = halts;
       orders = c.ring_and_wait.ensures.ordered ∙ c.halted.ensures.ordered ∙ c.loop.invariant.orders;
@@ -69,10 +69,10 @@ loop-preserved g c =
     }
 
 pub returns-in-Ok-Over-clause-goes_on : goal.returns-in-Ok-Over-clause-goes_on
-returns-in-Ok-Over-clause-goes_on g c = goes_on g.S.Source.left g.S.Source.faults c.args.feed.now c.loop.feed c.turn.new.self c.loop.invariant.goes_on c.turn.ensures.goes_on
+returns-in-Ok-Over-clause-goes_on g c = goes_on g.S.Source.told c.args.feed.now c.loop.feed c.turn.new.self c.loop.invariant.goes_on c.turn.ensures.goes_on
 
 pub returns-in-Err-clause-goes_on : goal.returns-in-Err-clause-goes_on
-returns-in-Err-clause-goes_on g c = goes_on g.S.Source.left g.S.Source.faults c.args.feed.now c.loop.feed c.turn.new.self c.loop.invariant.goes_on c.turn.ensures.goes_on
+returns-in-Err-clause-goes_on g c = goes_on g.S.Source.told c.args.feed.now c.loop.feed c.turn.new.self c.loop.invariant.goes_on c.turn.ensures.goes_on
 
 pub returns-in-Ok-Over-clause-stays : goal.returns-in-Ok-Over-clause-stays
 returns-in-Ok-Over-clause-stays g c = λ h.

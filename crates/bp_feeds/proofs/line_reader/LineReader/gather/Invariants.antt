@@ -7,8 +7,8 @@ use Rattle.bp_feeds.proofs.line_reader.LineReader.gather.Given as goal
 
 abbrev pub invariant-loop-self : goal.invariant-loop-self
 invariant-loop-self g l = record {
-  same : IsSameReading (reading_of g.S.Source.left l.fn.self) (reading_of g.S.Source.left l.self);
-  faults : g.S.Source.faults l.self.source ≡ g.S.Source.faults l.fn.self.source;
+  same : IsSameReading (reading_of g.S.Source.told l.fn.self) (reading_of g.S.Source.told l.self);
+  faults : (g.S.Source.told l.self.source).faults ≡ (g.S.Source.told l.fn.self.source).faults;
   asks : has_line (held l.fn.self) ≡ true → (l.self.source ≡ l.fn.self.source) × (held l.self ≡ held l.fn.self);
 }
 

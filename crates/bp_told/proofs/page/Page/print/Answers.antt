@@ -4,11 +4,7 @@ use Rattle.bp_told.proofs.Pieces.{shows_none, shows_on, shows_part, front_on, li
 use Rattle.bp_told.proofs.page.Page.print.Goals as goal
 
 pub loop-line-init : goal.loop-line-init
-<<<<<<< HEAD
-loop-line-init g c = record { shows = shows_none (g.K.Sink.written c.args.out.now) c.args.self.now; within = λ h. h; counts = omega arith; named = refl }
-=======
 loop-line-init g c = record { shows = shows_none (g.K.Sink.told c.args.out.now).written c.args.self.now; lasts = record { counts = omega arith; named = refl } }
->>>>>>> 61a94771 (stack trial)
 
 pub returns-in_err-add_line-clause-front : goal.returns-in_err-add_line-clause-front
 returns-in_err-add_line-clause-front g c =
@@ -31,11 +27,5 @@ loop-line-preserved g c =
       shows = shows_on _ _ _ _ c.loop-line.self _ c.add_line.new.self c.spill.new.self _ c.in_ok-add_line.ensures.added
           (line_on c.args.self.now c.args.lines.now c.loop-line.line-index c.line-item.result c.loop-line-test.true c.line-item.is)
           c.loop-line.invariant.shows c.in_ok-spill.ensures.shows;
-<<<<<<< HEAD
-      within = λ h. c.spill.ensures.within;
-      counts = omega (arith, counted, before);
-      named = c.spill.ensures.named ∙ c.loop-line.invariant.named;
-=======
       lasts = record { counts = omega (arith, counted, before); named = c.spill.ensures.lasts.named ∙ c.loop-line.invariant.lasts.named };
->>>>>>> 61a94771 (stack trial)
     }

@@ -7,13 +7,6 @@ use Rattle.bp_told.proofs.page.Page.print.Given as goal
 
 abbrev pub invariant-loop-line : goal.invariant-loop-line
 invariant-loop-line g l = record {
-<<<<<<< HEAD
-  shows : Shows (g.K.Sink.written l.fn.out) (l.fn.self ++ lines_text (take l.line-index l.lines)) l.self (g.K.Sink.written l.out);
-  within : length l.fn.self < FULL → length l.self < FULL;
-  counts : g.K.Sink.faults l.fn.out ≤ g.K.Sink.faults l.out;
-  named : g.K.Sink.made_as l.out ≡ g.K.Sink.made_as l.fn.out;
-=======
   shows : Shows (g.K.Sink.told l.fn.out).written (l.fn.self ++ lines_text (take l.line-index l.lines)) l.self (g.K.Sink.told l.out).written;
   lasts : Lasts (g.K.Sink.told l.fn.out) (g.K.Sink.told l.out);
->>>>>>> 61a94771 (stack trial)
 }

@@ -1,5 +1,5 @@
 use Rattle.std.proofs.lemmas.Result.{err_from_is_err_and}
-use Rattle.bp_told.proofs.Words.{goes_on, tells_then, breaks_then, record_breaks}
+use Rattle.bp_told.proofs.Words.{outlets_on, tells_then, breaks_then, record_breaks}
 use Rattle.bp_told.proofs.telling.Telling.tell.Goals as goal
 
 pub returns-in_err-record-clause-breaks : goal.returns-in_err-record-clause-breaks
@@ -15,7 +15,7 @@ returns-clause-tells g c =
 pub returns-clause-breaks : goal.returns-clause-breaks
 returns-clause-breaks g c =
     breaks_then c.args.records.now c.args.lines.now c.args.outlets.now c.record.new.outlets c.print.new.outlets c.args.self.now c.record.new.self c.print.new.self c.print.result
-    c.record.ensures.goes_on c.in_ok-record.ensures.records c.print.ensures.breaks
+    c.record.ensures.lasts c.in_ok-record.ensures.records c.print.ensures.breaks
 
-pub returns-clause-goes_on : goal.returns-clause-goes_on
-returns-clause-goes_on g c = goes_on _ c.record.new.outlets _ c.record.ensures.goes_on c.print.ensures.goes_on
+pub returns-clause-lasts : goal.returns-clause-lasts
+returns-clause-lasts g c = outlets_on _ c.record.new.outlets _ c.record.ensures.lasts c.print.ensures.lasts
