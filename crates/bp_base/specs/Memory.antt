@@ -111,7 +111,8 @@ abbrev pub told_store : Store → PlainSink
 told_store s = record { written = Some s.written; faults = s.faults; made_as = None }
 
 abbrev pub told_made : Made → PlainSink
-told_made m = record { written = Some m.store.written; faults = m.store.faults; made_as = Some m.name }
+told_made m =
+    record { written = Some m.store.written; faults = m.store.faults; made_as = Some m.name }
 
 abbrev pub told_files : Files → PlainWorld
 told_files f =

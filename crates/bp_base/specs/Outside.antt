@@ -45,7 +45,8 @@ pub record RefusesReading (old new : PlainSource) : Type 0 where
   pub rose : Rose old.faults new.faults
 
 -- all that was left was read, and is within the limit
-pub record ReadsAll (old : PlainSource) (limit : ℕ) (bytes : List ℕ) (new : PlainSource) : Type 0 where
+pub record ReadsAll (old : PlainSource) (limit : ℕ) (bytes : List ℕ) (new : PlainSource)
+    : Type 0 where
   pub all : IfSome old.left (λ left. bytes ≡ left)
   pub end : IfSome old.left (λ _. new.left ≡ Some [])
   pub within : length bytes ≤ limit

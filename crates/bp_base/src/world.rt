@@ -227,7 +227,8 @@ impl World for MemoryWorld {
     fn open(&mut self, name: &str) -> Result<MemorySource, WorldError>
         ensures opens { IfOk result (λ input.
             OpensAs (told_files self.old) name.now (told_supply input) (told_files self.new)) }
-        ensures none { IfErr result (OpensNone (told_files self.old) name.now (told_files self.new)) }
+        ensures none { IfErr result
+            (OpensNone (told_files self.old) name.now (told_files self.new)) }
         ensures only { OnlyReads (told_files self.old) (told_files self.new) }
 
         // It fails exactly where this call is to fail or nothing is held under the name.
@@ -260,7 +261,8 @@ impl World for MemoryWorld {
     fn create(&mut self, name: &str) -> Result<MemoryOutput, WorldError>
         ensures creates { IfOk result (λ made.
             CreatesAs (told_files self.old) name.now (told_made made) (told_files self.new)) }
-        ensures none { IfErr result (CreatesNone (told_files self.old) name.now (told_files self.new)) }
+        ensures none { IfErr result
+            (CreatesNone (told_files self.old) name.now (told_files self.new)) }
         ensures only { OnlyMakes (told_files self.old) (told_files self.new) }
 
         // It fails exactly where this call is to fail.
@@ -286,7 +288,8 @@ impl World for MemoryWorld {
     }
 
     fn close_input(&mut self, input: MemorySource)
-        ensures closes { ClosesInput (told_files self.old) (told_supply input) (told_files self.new) }
+        ensures closes { ClosesInput (told_files self.old) (told_supply input)
+            (told_files self.new) }
         ensures raised { 0 < input.faults → self.new.read_faults ≡ raised self.old.read_faults }
         ensures rest { self.new ≡ record self.old { read_faults = self.new.read_faults } }
     {

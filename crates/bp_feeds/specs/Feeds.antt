@@ -43,6 +43,8 @@ module _ {S : Type 0} where
     pub more : List Item
     pub all : given new ≡ given old ++ more
     pub reads : ReadsOn (reading_of told old.lines) more (reading_of told new.lines)
-    pub cause : has_fault more ≡ true → Rose (told old.lines.source).faults (told new.lines.source).faults
-    pub spares : has_fault more ≡ false → (told new.lines.source).faults ≡ (told old.lines.source).faults
+    pub cause : has_fault more ≡ true
+        → Rose (told old.lines.source).faults (told new.lines.source).faults
+    pub spares : has_fault more ≡ false
+        → (told new.lines.source).faults ≡ (told old.lines.source).faults
     pub counts : (told old.lines.source).faults ≤ (told new.lines.source).faults

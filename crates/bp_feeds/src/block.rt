@@ -56,10 +56,12 @@ impl Block {
     /// Asks the source for more bytes, and answers how many came. That none came means that none is left.
     pub(crate) fn fill<S: Source>(&mut self, source: &mut S) -> Result<usize, Failed>
         requires { self.old ≡ [] }
-        ensures given { OnOk result (Gives (S.told source.old).left self.new (S.told source.new).left) }
+        ensures given { OnOk result
+            (Gives (S.told source.old).left self.new (S.told source.new).left) }
         ensures count { IfOk result (λ n. length self.new ≡ n) }
         ensures most { length self.new ≤ MOST_READ }
-        ensures end { IfOk result (λ n. n ≡ 0 → IfSome (S.told source.old).left (λ bytes. bytes ≡ [])) }
+        ensures end { IfOk result
+            (λ n. n ≡ 0 → IfSome (S.told source.old).left (λ bytes. bytes ≡ [])) }
 
         ensures none { OnErr result (self.new ≡ []) }
         ensures failed { OnErr result ((S.told source.new).left ≡ (S.told source.old).left) }

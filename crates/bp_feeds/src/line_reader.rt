@@ -36,8 +36,12 @@ impl<S: Source> LineReader<S> {
     /// The lines of a source, of which none was read.
     pub(crate) fn new(alloc: Global, source: S) -> LineReader<S>
         ensures source { result.source ≡ source }
-        ensures reading { reading_of S.told result
-            ≡ record { held = []; number = 1; reached = Reached.Within; left = (S.told source).left } }
+        ensures reading { reading_of S.told result ≡ record {
+          held = [];
+          number = 1;
+          reached = Reached.Within;
+          left = (S.told source).left;
+        } }
     {
         LineReader {
             alloc,
@@ -213,7 +217,8 @@ impl<S: Source> LineReader<S> {
             → Rose (S.told self.old.source).faults (S.told self.new.source).faults) }
         ensures told { IfOk result (λ item. has_fault (option_to_list item) ≡ false
             → (S.told self.new.source).faults ≡ (S.told self.old.source).faults) }
-        ensures spares { OnErr result ((S.told self.new.source).faults ≡ (S.told self.old.source).faults) }
+        ensures spares { OnErr result
+            ((S.told self.new.source).faults ≡ (S.told self.old.source).faults) }
         ensures counts { (S.told self.old.source).faults ≤ (S.told self.new.source).faults }
         ensures asks { has_line (held self.old) ≡ true → self.new.source ≡ self.old.source }
     {

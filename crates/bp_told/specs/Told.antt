@@ -92,7 +92,8 @@ BreaksOff records more old before new after fault =
 abbrev pub WritesAll : PlainOutlets → Telling → PlainOutlets → Telling →
     Type 0
 WritesAll old before new after =
-    (text : Texts) (head : List ℕ) (first : PlainOutlets) (records : List Record) (lines : List Line)
+    (text : Texts) (head : List ℕ) (first : PlainOutlets) (records : List Record)
+    (lines : List Line)
     → IsTold text head first old before records lines
     → IsTold text head first new after records lines
     × IsWritten head first new records lines
@@ -100,7 +101,8 @@ WritesAll old before new after =
 -- a front of what was told before telling broke off was written
 abbrev pub WritesPart : PlainOutlets → Telling → PlainOutlets → Type 0
 WritesPart old before new =
-    (text : Texts) (head : List ℕ) (first : PlainOutlets) (records : List Record) (lines : List Line)
+    (text : Texts) (head : List ℕ) (first : PlainOutlets) (records : List Record)
+    (lines : List Line)
     (fault : RunFault)
     → ¬ (fault ≡ LogWrite)
     → IsBroken text head first old before records lines fault

@@ -47,12 +47,13 @@ pub record BreaksLog (old : PlainOutlets) (page : List ℕ) (new : PlainOutlets)
 -- ---- records, and lines
 
 -- the records after those that are kept were put on the page of the log, or written
-pub record AddsRecords (all : List Record) (old : PlainOutlets) (before : Telling) (new : PlainOutlets)
-    (after : Telling) : Type 0 where
+pub record AddsRecords (all : List Record) (old : PlainOutlets) (before : Telling)
+    (new : PlainOutlets) (after : Telling) : Type 0 where
   pub out : new.out ≡ old.out
   pub lines : after.lines ≡ before.lines
   pub kept : after.kept ≡ length all
-  pub log : LogShows old.log (before.records ++ records_text (drop before.kept all)) after.records new.log
+  pub log : LogShows old.log (before.records ++ records_text (drop before.kept all)) after.records
+      new.log
   pub within : length after.records < FULL
 
 -- or that broke off
@@ -60,8 +61,8 @@ pub record BreaksRecords (all : List Record) (old : PlainOutlets) (before : Tell
     (new : PlainOutlets) (after : Telling) (fault : RunFault) : Type 0 where
   pub out : new.out ≡ old.out
   pub lines : after.lines ≡ before.lines
-  pub log : LogShowsFront old.log (before.records ++ records_text (drop before.kept all)) after.records
-      new.log
+  pub log : LogShowsFront old.log (before.records ++ records_text (drop before.kept all))
+      after.records new.log
   pub waits : ¬ (fault ≡ LogWrite) → LogWaits old.log before.records after.records new.log
   pub cause : IsCaused old new fault
 
@@ -85,16 +86,16 @@ pub record BreaksText (text : List ℕ) (old : PlainOutlets) (before : Telling) 
   pub cause : IsCaused old new fault
 
 -- all that waited was written
-pub record WritesWaiting (old : PlainOutlets) (before : Telling) (new : PlainOutlets) (after : Telling)
-    : Type 0 where
+pub record WritesWaiting (old : PlainOutlets) (before : Telling) (new : PlainOutlets)
+    (after : Telling) : Type 0 where
   pub out : Appends old.out.written before.lines new.out.written
   pub log : LogGets old.log before.records new.log
   pub nothing : NothingWaits after
   pub kept : after.kept ≡ before.kept
 
 -- or that broke off
-pub record BreaksWriting (old : PlainOutlets) (before : Telling) (new : PlainOutlets) (after : Telling)
-    (fault : RunFault) : Type 0 where
+pub record BreaksWriting (old : PlainOutlets) (before : Telling) (new : PlainOutlets)
+    (after : Telling) (fault : RunFault) : Type 0 where
   pub out : ShowsFront old.out.written before.lines after.lines new.out.written
   pub log : LogShowsFront old.log before.records after.records new.log
   pub behind : (new.out.written ≡ old.out.written) ⊎ LogGets old.log before.records new.log
@@ -113,8 +114,8 @@ pub record Tells (all : List Record) (more : List Line) (old : PlainOutlets) (be
   pub kept : after.kept ≡ length all
 
 -- or that broke off
-pub record BreaksTelling (all : List Record) (more : List Line) (old : PlainOutlets) (before : Telling)
-    (new : PlainOutlets) (after : Telling) (fault : RunFault) : Type 0 where
+pub record BreaksTelling (all : List Record) (more : List Line) (old : PlainOutlets)
+    (before : Telling) (new : PlainOutlets) (after : Telling) (fault : RunFault) : Type 0 where
   pub breaks : BreaksOff all more old before new after fault
   pub cause : IsCaused old new fault
 

@@ -31,7 +31,7 @@ impl<'a, 'b, K: Sink, L: Sink> Model for Outlets<'a, 'b, K, L> {
     } };
 }
 
-/// WritesWaiting the page to the log, where one is kept, and then nothing waits on it.
+/// Writes the page to the log, where one is kept, and then nothing waits on it.
 fn write_log<L: Sink>(log: &mut Option<L>, page: &mut Page) -> Result<(), Failed>
     ensures emptied { page.new ≡ [] }
     ensures whole { OnOk result (LogGets (option_map L.told log.old) page.old
@@ -79,7 +79,7 @@ impl<'a, 'b, K: Sink, L: Sink> Outlets<'a, 'b, K, L> {
         self.log.is_some()
     }
 
-    /// WritesWaiting the page to the output, and then nothing waits on it.
+    /// Writes the page to the output, and then nothing waits on it.
     pub(crate) fn print(&mut self, page: &mut Page) -> Result<(), RunFault>
         ensures emptied { page.new ≡ [] }
         ensures whole { OnOk result (Appends self.old.out.written page.old self.new.out.written) }
@@ -93,7 +93,7 @@ impl<'a, 'b, K: Sink, L: Sink> Outlets<'a, 'b, K, L> {
         }
     }
 
-    /// WritesWaiting the page to the log, where one is kept, and then nothing waits on it.
+    /// Writes the page to the log, where one is kept, and then nothing waits on it.
     pub(crate) fn keep(&mut self, page: &mut Page) -> Result<(), RunFault>
         ensures emptied { page.new ≡ [] }
         ensures whole { OnOk result (LogGets self.old.log page.old self.new.log) }

@@ -1,5 +1,5 @@
 //! Text that waits to be written, so that the outside gets few and large pieces.
-ghost use Rattle.std.specs.Prelude.{◌≡◌, ◌++◌, [], Some, IfOk, OnOk, OnErr, IsErrOf};
+ghost use Rattle.std.specs.Prelude.{◌≡◌, ◌≤◌, ◌<◌, ◌++◌, ◌↔◌, [], length, Some, IsTrue, IfOk, OnOk, OnErr, IsErrOf};
 ghost use Rattle.bp_base.specs.Counts.{Rose};
 ghost use Rattle.bp_base.specs.Outside.{Lasts, Wrote, WroteFront};
 ghost use Rattle.bp_base.specs.Pieces.{AppendsFront};
@@ -121,7 +121,7 @@ impl Page {
         Ok(())
     }
 
-    /// WritesWaiting what waits, and then nothing waits. After a refusal a front of it was written.
+    /// Writes what waits, and then nothing waits. After a refusal a front of it was written.
     pub fn write<K: Sink>(&mut self, out: &mut K) -> Result<(), Failed>
         ensures emptied { self.new ≡ [] }
         ensures whole { OnOk result (Wrote (K.told out.old) self.old (K.told out.new)) }
@@ -133,7 +133,7 @@ impl Page {
         written
     }
 
-    /// WritesWaiting what waits if the page is full. After a refusal a front of it was written.
+    /// Writes what waits if the page is full. After a refusal a front of it was written.
     pub fn spill<K: Sink>(&mut self, out: &mut K) -> Result<(), Failed>
         ensures within { length self.new < FULL }
         ensures shows { OnOk result
@@ -157,10 +157,11 @@ impl Page {
         lines: &[Line],
         out: &mut K,
     ) -> Result<(), PrintError>
-        ensures shows { let text = self.old ++ lines_text lines.now in
-            OnOk result (Shows (K.told out.old).written text self.new (K.told out.new).written) }
-        ensures front { let text = self.old ++ lines_text lines.now in
-            OnErr result (ShowsFront (K.told out.old).written text self.new (K.told out.new).written) }
+        ensures shows { OnOk result (Shows (K.told out.old).written
+            (self.old ++ lines_text lines.now) self.new (K.told out.new).written) }
+        ensures front { OnErr result (ShowsFront (K.told out.old).written
+            (self.old ++ lines_text lines.now) self.new (K.told out.new).written) }
+        ensures within { length self.old < FULL → OnOk result (length self.new < FULL) }
         ensures cause { IsErrOf result PrintError.Write
             → Rose (K.told out.old).faults (K.told out.new).faults }
         ensures lasts { Lasts (K.told out.old) (K.told out.new) }

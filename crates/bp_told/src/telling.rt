@@ -69,7 +69,8 @@ impl Telling {
         outlets: &mut Outlets<'_, '_, K, L>,
     ) -> Result<(), RunFault>
         requires kept { self.old.kept ≤ length records.now }
-        ensures records { OnOk result (AddsRecords records.now outlets.old self.old outlets.new self.new) }
+        ensures records { OnOk result
+            (AddsRecords records.now outlets.old self.old outlets.new self.new) }
         ensures breaks { IfErr result
             (BreaksRecords records.now outlets.old self.old outlets.new self.new) }
         ensures lasts { OutletsLast outlets.old outlets.new }
@@ -84,7 +85,7 @@ impl Telling {
         Ok(())
     }
 
-    /// WritesWaiting what waits for the log, and then the lines that wait. After a refusal a front of that
+    /// Writes what waits for the log, and then the lines that wait. After a refusal a front of that
     /// was written.
     fn write<K: Sink, L: Sink>(
         &mut self,
@@ -160,7 +161,7 @@ impl Telling {
         self.print(alloc, lines, outlets)
     }
 
-    /// WritesWaiting all that waits: what is for the log, and then the lines. Then nothing waits. After a
+    /// Writes all that waits: what is for the log, and then the lines. Then nothing waits. After a
     /// refusal a front of that was written. What was told before telling broke off, unless the log
     /// failed, may be written too.
     pub fn flush<K: Sink, L: Sink>(

@@ -1,10 +1,10 @@
-use Rattle.std.proofs.Common.{arith, refl, ◌∙◌}
 use Rattle.std.proofs.lemmas.Result.{err_from_is_err_and}
+use Rattle.bp_base.proofs.Following.{lasts_same, lasts_on}
 use Rattle.bp_told.proofs.Pieces.{shows_none, shows_on, shows_part, front_on, line_on, line_whole}
 use Rattle.bp_told.proofs.page.Page.print.Goals as goal
 
 pub loop-line-init : goal.loop-line-init
-loop-line-init g c = record { shows = shows_none (g.K.Sink.told c.args.out.now).written c.args.self.now; lasts = record { counts = omega arith; named = refl } }
+loop-line-init g c = record { shows = shows_none (g.K.Sink.told c.args.out.now).written c.args.self.now; within = λ h. h; lasts = lasts_same _ }
 
 pub returns-in_err-add_line-clause-front : goal.returns-in_err-add_line-clause-front
 returns-in_err-add_line-clause-front g c =
@@ -21,11 +21,10 @@ returns-in_err-spill-clause-front g c =
 
 pub loop-line-preserved : goal.loop-line-preserved
 loop-line-preserved g c =
-    let counted = c.spill.ensures.lasts.counts in
-    let before = c.loop-line.invariant.lasts.counts in
     record {
       shows = shows_on _ _ _ _ c.loop-line.self _ c.add_line.new.self c.spill.new.self _ c.in_ok-add_line.ensures.added
           (line_on c.args.self.now c.args.lines.now c.loop-line.line-index c.line-item.result c.loop-line-test.true c.line-item.is)
           c.loop-line.invariant.shows c.in_ok-spill.ensures.shows;
-      lasts = record { counts = omega (arith, counted, before); named = c.spill.ensures.lasts.named ∙ c.loop-line.invariant.lasts.named };
+      within = λ h. c.spill.ensures.within;
+      lasts = lasts_on _ _ _ c.loop-line.invariant.lasts c.spill.ensures.lasts;
     }
