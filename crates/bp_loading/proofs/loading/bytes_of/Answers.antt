@@ -1,5 +1,5 @@
 use Rattle.std.proofs.lemmas.Result.{IfOk-weaker, IfErr-weaker}
-use Rattle.bp_loading.proofs.Refused.{only, loads, unread, not_opened, not_asked}
+use Rattle.bp_loading.proofs.Refused.{only, loads, unread}
 use Rattle.bp_loading.proofs.loading.bytes_of.Goals as goal
 
 pub returns-clause-loads : goal.returns-clause-loads
