@@ -1,7 +1,6 @@
 -- What a call does to what is told, after another.
-use Rattle.std.proofs.Common.{◌≡◌, ℕ, ◌≤◌, List, ◌++◌, refl, ◌∙◌, sym, ap, subst, append_assoc, arith}
+use Rattle.std.proofs.Common.{ℕ, ◌≤◌, List, ◌++◌, refl, ◌∙◌, sym, ap, append_assoc, arith}
 use Rattle.bp_base.specs.Counts.{Rose}
-use Rattle.bp_base.specs.Pieces.{Appends}
 use Rattle.bp_base.specs.Outside.{PlainSink, PlainWorld, Lasts, Wrote, WroteFront, OnlyReads, OnlyMakes}
 use Rattle.bp_base.proofs.Appending.{appends-on}
 

@@ -1,7 +1,6 @@
 //! A source and a sink in memory, which tell all, and fail at the calls that their lists name.
-ghost use Rattle.std.specs.Prelude.{◌≡◌, ◌≤◌, ◌+◌, ◌<◌, [], length, take, drop, min, IfOk, OnOk, OnErr, is_err, if◌then◌else◌};
-ghost use Rattle.bp_base.specs.Counts.{Rose, raised};
-ghost use Rattle.bp_base.specs.Pieces.{Gives, Appends};
+ghost use Rattle.std.specs.Prelude.{◌≡◌, ◌≤◌, ◌+◌, ◌<◌, [], length, drop, min, IfOk, OnErr, is_err, if◌then◌else◌};
+ghost use Rattle.bp_base.specs.Counts.{raised};
 ghost use Rattle.bp_base.specs.Outside.{ReadsInto, RefusesReading, Takes, RefusesWriting, Lasts};
 ghost use Rattle.bp_base.specs.inner.Calls.{is_to_fail, called, planned};
 ghost use Rattle.bp_base.specs.Memory.{supply, refuses, offered, told_supply, told_store};

@@ -1,6 +1,6 @@
 //! A world in memory, which tells all, and fails at the calls that its lists name.
-ghost use Rattle.std.specs.Prelude.{◌≡◌, ◌<◌, ◌≤◌, true, false, [], OnOk, OnErr, IfErr, IfOk, IsErrOf, IsSomeAnd, string_bytes, option_copied, option_map, vec_len, vec_capacity};
-ghost use Rattle.bp_base.specs.Counts.{Rose, raised};
+ghost use Rattle.std.specs.Prelude.{◌≡◌, ◌<◌, true, false, OnOk, OnErr, IfErr, IfOk, IsErrOf, IsSomeAnd, string_bytes, option_copied, option_map, vec_len, vec_capacity};
+ghost use Rattle.bp_base.specs.Counts.{raised};
 ghost use Rattle.bp_base.specs.Worlds.{Sets};
 ghost use Rattle.bp_base.specs.Outside.{OpensAs, OpensNone, OnlyReads, CreatesAs, CreatesNone, OnlyMakes, ClosesInput, ClosesOutput};
 ghost use Rattle.bp_base.specs.Memory.{supply, under, empty_files, can_open, failing_under, asked_for, opened_as, made_as, output, told_supply, told_made, told_files};

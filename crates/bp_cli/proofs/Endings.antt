@@ -22,7 +22,7 @@ use Rattle.bp_run.specs.Story.{story, story_from}
 use Rattle.bp_run.specs.Text.{text}
 use Rattle.bp_code.specs.Code.{text_of}
 use Rattle.bp_script.specs.Programs.{IsProgram}
-use Rattle.bp_feeds.proofs.Going.{rose_from}
+use Rattle.bp_base.proofs.Following.{rose_from}
 use Rattle.bp_loading.specs.Loading.{IsUnder, IsUnloaded}
 use Rattle.bp_loading.specs.declared.unloaded.Unloaded.{Unloaded}
 use Rattle.bp_loading.specs.declared.unloaded.Unloaded.TheVariants as unloaded

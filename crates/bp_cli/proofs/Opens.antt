@@ -6,7 +6,7 @@ use Rattle.std.proofs.lemmas.List.{take_more}
 use Rattle.bp_base.specs.Counts.{Rose}
 use Rattle.bp_base.specs.Worlds.{Asks}
 use Rattle.bp_base.specs.declared.outside.WorldError.{WorldError}
-use Rattle.bp_feeds.proofs.Going.{rose_on, rose_from}
+use Rattle.bp_base.proofs.Following.{rose_on, rose_from}
 use Rattle.bp_cli.specs.Asking.{WasAsked}
 use Rattle.bp_cli.proofs.Asking.{asks_on}
 

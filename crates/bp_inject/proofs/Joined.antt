@@ -1,5 +1,5 @@
 -- What holds of an injector that was started, and once it was joined.
-use Rattle.std.proofs.Common.{◌≡◌, ◌⊎◌, ⊎_elim, ◌↔◌, ℕ, true, false, List, [], ◌++◌, Option, None, Some, option_to_list, length, append-nil, refl, sym, ap, ◌∙◌, subst, arith}
+use Rattle.std.proofs.Common.{◌≡◌, ◌⊎◌, ⊎_elim, ◌↔◌, true, false, List, [], ◌++◌, Option, None, Some, option_to_list, length, append-nil, refl, sym, ap, ◌∙◌, subst, arith}
 use Rattle.std.proofs.lemmas.Bool.{or_cases, or_left, or_from, and_parts}
 use Rattle.std.specs.Prelude.{is_none}
 use Rattle.std.proofs.lemmas.List.{nil_from_length}

@@ -1,5 +1,5 @@
 -- What is known of an injector that was started, and of one that was joined.
-use Rattle.std.specs.Prelude.{◌≡◌, ◌≤◌, ◌↔◌, ℕ, Bool, true, false, List, [], ◌∷◌, Option}
+use Rattle.std.specs.Prelude.{◌≡◌, ◌≤◌, ◌↔◌, Bool, true, false, List, [], ◌∷◌}
 use Rattle.rtrb.specs.Ring.{sent, received, IsPair}
 use Rattle.bp_base.specs.Counts.{Rose}
 use Rattle.bp_base.specs.Outside.{PlainSource}

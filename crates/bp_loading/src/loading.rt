@@ -1,10 +1,9 @@
 //! Programs that are read and accepted.
-ghost use Rattle.std.specs.Prelude.{◌≡◌, ◌⊎◌, ◌≤◌, IsErrOf, IfOk, IfErr, vec_len};
-ghost use Rattle.bp_base.specs.Counts.{Rose};
-ghost use Rattle.bp_base.specs.Worlds.{Asks};
+ghost use Rattle.std.specs.Prelude.{IfOk, IfErr};
+ghost use Rattle.bp_base.specs.Outside.{OnlyReads};
 ghost use Rattle.bp_script.specs.Programs.{IsProgram};
-ghost use Rattle.bp_loading.specs.Loading.{IsUnder, IsUnloaded};
-ghost use Rattle.bp_loading.specs.inner.Unaccepted.{IsTooLong};
+ghost use Rattle.bp_loading.specs.Loading.{Loads, LoadsNone};
+ghost use Rattle.bp_loading.specs.inner.Unaccepted.{unread_as};
 
 use crate::unloaded::Unloaded;
 use bp_base::{ReadError, World, WorldError, read_all};
@@ -24,16 +23,11 @@ pub struct Loaded {
 
 /// The bytes of that name in the world, whose input is closed again.
 fn bytes_of<W: World>(alloc: Global, world: &mut W, name: &str) -> Result<Vec<u8>, ReadError>
-    ensures bytes { IfOk result (λ v. IsUnder (W.holds world.old) name.now v.items) }
-    ensures within { IfOk result (λ v. vec_len v ≤ MOST_BYTES) }
-    ensures too_long { IsErrOf result ReadError.TooLong → IsTooLong (W.holds world.old) name.now }
-    ensures cause { IsErrOf result ReadError.Fault
-        → Rose (W.read_faults world.old) (W.read_faults world.new) }
-    ensures asked { (IsErrOf result ReadError.Memory × (W.asked world.new ≡ W.asked world.old))
-        ⊎ Asks (W.asked world.old) name.now (W.asked world.new) }
-    ensures holds { W.holds world.new ≡ W.holds world.old }
-    ensures counts { W.read_faults world.old ≤ W.read_faults world.new }
-    ensures writes { W.write_faults world.new ≡ W.write_faults world.old }
+    ensures loads { IfOk result (λ v.
+        Loads (W.told world.old) name.now v.items (W.told world.new)) }
+    ensures none { IfErr result (λ e.
+        LoadsNone (W.told world.old) name.now (W.told world.new) (unread_as e)) }
+    ensures only { OnlyReads (W.told world.old) (W.told world.new) }
 {
     let mut input = match world.open(name) {
         Ok(input) => input,
@@ -54,16 +48,10 @@ fn bytes_of<W: World>(alloc: Global, world: &mut W, name: &str) -> Result<Vec<u8
 /// written.
 pub fn load<W: World>(alloc: Global, world: &mut W, name: &str) -> Result<Loaded, Unloaded>
     ensures program { IfOk result (λ l. IsProgram l.bytes.items l.program) }
-    ensures bytes { IfOk result (λ l. IsUnder (W.holds world.old) name.now l.bytes.items) }
-    ensures within { IfOk result (λ l. vec_len l.bytes ≤ MOST_BYTES) }
-    ensures unloaded { IfErr result (IsUnloaded (W.holds world.old) name.now) }
-    ensures cause { IsErrOf result Unloaded.NotRead
-        → Rose (W.read_faults world.old) (W.read_faults world.new) }
-    ensures asked { (IsErrOf result Unloaded.NoMemory × (W.asked world.new ≡ W.asked world.old))
-        ⊎ Asks (W.asked world.old) name.now (W.asked world.new) }
-    ensures holds { W.holds world.new ≡ W.holds world.old }
-    ensures counts { W.read_faults world.old ≤ W.read_faults world.new }
-    ensures writes { W.write_faults world.new ≡ W.write_faults world.old }
+    ensures loads { IfOk result (λ l.
+        Loads (W.told world.old) name.now l.bytes.items (W.told world.new)) }
+    ensures none { IfErr result (LoadsNone (W.told world.old) name.now (W.told world.new)) }
+    ensures only { OnlyReads (W.told world.old) (W.told world.new) }
 {
     let bytes = match bytes_of(alloc, world, name) {
         Ok(bytes) => bytes,

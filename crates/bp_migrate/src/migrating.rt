@@ -1,6 +1,7 @@
 //! A log of either version, written in the second.
 ghost use Rattle.std.specs.Prelude.{◌≡◌, ◌≤◌, None, IfSome, IsErrOf};
 ghost use Rattle.bp_base.specs.Counts.{Rose};
+ghost use Rattle.bp_base.specs.Outside.{Lasts};
 ghost use Rattle.bp_reader.specs.Fed.{Between};
 ghost use Rattle.bp_reader.specs.declared.fault.LogFault.TheVariants as log_fault;
 ghost use Rattle.bp_reading.specs.Reading.{first_stage};
@@ -33,19 +34,18 @@ fn copy<S: Source, K: Sink>(
 ) -> Result<(), MigrateFault>
     requires { reader.old.refusal ≡ None }
     ensures copies { IfSome reader.old.left (λ bytes. Copies reader.old.stage bytes page.old
-        (K.written out.old) page.new (K.written out.new) result) }
+        (K.told out.old).written page.new (K.told out.new).written result) }
     ensures failed { IsErrOf result (MigrateFault.Log log_fault.Read)
         → Between reader.old.left reader.new.left (λ bytes rest. CopiesTaken reader.old.stage
-        bytes rest page.old (K.written out.old) page.new (K.written out.new)) }
+        bytes rest page.old (K.told out.old).written page.new (K.told out.new).written) }
     ensures empty { IsErrOf result (MigrateFault.Log log_fault.Read)
         → reader.new.left ≡ reader.new.source }
     ensures read { IsErrOf result (MigrateFault.Log log_fault.Read)
         → Rose reader.old.faults reader.new.faults }
     ensures write { IsErrOf result MigrateFault.Write
-        → Rose (K.faults out.old) (K.faults out.new) }
+        → Rose (K.told out.old).faults (K.told out.new).faults }
     ensures read_counts { reader.old.faults ≤ reader.new.faults }
-    ensures write_counts { K.faults out.old ≤ K.faults out.new }
-    ensures named { K.made_as out.new ≡ K.made_as out.old }
+    ensures lasts { Lasts (K.told out.old) (K.told out.new) }
 {
     loop {
         let Some(entry) = reader.next(alloc)? else {
@@ -67,19 +67,19 @@ fn migrate_records<S: Source, K: Sink>(
     requires stage { reader.old.stage
         ≡ first_stage reader.old.stage.version header.now.options.injectors }
     ensures ends { IfSome reader.old.left (λ rest. CopiesBehind reader.old.stage.version header.now
-        rest (K.written out.old) (K.written out.new) result) }
+        rest (K.told out.old).written (K.told out.new).written result) }
     ensures failed { IsErrOf result (MigrateFault.Log log_fault.Read)
         → Between reader.old.left reader.new.left (λ bytes rest. TakenBehind
-        reader.old.stage.version header.now bytes rest (K.written out.old) (K.written out.new)) }
+        reader.old.stage.version header.now bytes rest (K.told out.old).written
+        (K.told out.new).written) }
     ensures empty { IsErrOf result (MigrateFault.Log log_fault.Read)
         → reader.new.left ≡ reader.new.source }
     ensures read { IsErrOf result (MigrateFault.Log log_fault.Read)
         → Rose reader.old.faults reader.new.faults }
     ensures write { IsErrOf result MigrateFault.Write
-        → Rose (K.faults out.old) (K.faults out.new) }
+        → Rose (K.told out.old).faults (K.told out.new).faults }
     ensures read_counts { reader.old.faults ≤ reader.new.faults }
-    ensures write_counts { K.faults out.old ≤ K.faults out.new }
-    ensures named { K.made_as out.new ≡ K.made_as out.old }
+    ensures lasts { Lasts (K.told out.old) (K.told out.new) }
 {
     let mut page = Page::headed(alloc, header)?;
     let ended = copy(alloc, reader, &mut page, out);
@@ -97,21 +97,21 @@ fn migrate_records<S: Source, K: Sink>(
 /// such a text was written.
 pub fn migrate<S: Source, K: Sink>(alloc: Global, log: S, out: &mut K) -> Migrated<S>
     // Of a source that tells its bytes: the answer and what was printed are those of these bytes.
-    ensures ends { IfSome (S.left log)
-        (λ bytes. IsMigration bytes (K.written out.old) (K.written out.new) result.ended) }
+    ensures ends { IfSome (S.told log).left
+        (λ bytes. IsMigration bytes (K.told out.old).written (K.told out.new).written
+        result.ended) }
 
     // Where reading failed: what was printed is what a log of the bytes that were taken says.
     ensures failed { IsErrOf result.ended (MigrateFault.Log log_fault.Read)
-        → Between (S.left log) (S.left result.log) (λ bytes rest. MigratesTaken bytes rest
-        (K.written out.old) (K.written out.new)) }
+        → Between (S.told log).left (S.told result.log).left (λ bytes rest. MigratesTaken bytes rest
+        (K.told out.old).written (K.told out.new).written) }
 
     ensures read { IsErrOf result.ended (MigrateFault.Log log_fault.Read)
-        → Rose (S.faults log) (S.faults result.log) }
+        → Rose (S.told log).faults (S.told result.log).faults }
     ensures write { IsErrOf result.ended MigrateFault.Write
-        → Rose (K.faults out.old) (K.faults out.new) }
-    ensures read_counts { S.faults log ≤ S.faults result.log }
-    ensures write_counts { K.faults out.old ≤ K.faults out.new }
-    ensures named { K.made_as out.new ≡ K.made_as out.old }
+        → Rose (K.told out.old).faults (K.told out.new).faults }
+    ensures read_counts { (S.told log).faults ≤ (S.told result.log).faults }
+    ensures lasts { Lasts (K.told out.old) (K.told out.new) }
 {
     match Reader::open(alloc, log) {
         Err(refused) => Migrated {

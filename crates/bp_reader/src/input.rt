@@ -87,9 +87,9 @@ impl<S: Source> Model for Input<S> {
     ghost Value = { Fed };
 
     ghost view = { λ i. record {
-      left = option_map (λ rest. drop i.at (take i.filled i.block) ++ rest) (S.left i.source);
-      faults = S.faults i.source;
-      source = S.left i.source;
+      left = option_map (λ rest. drop i.at (take i.filled i.block) ++ rest) (S.told i.source).left;
+      faults = (S.told i.source).faults;
+      source = (S.told i.source).left;
     } };
 
     ghost invariant = { λ i. (i.at ≤ i.filled) × (i.filled ≤ 4096) };
@@ -99,9 +99,9 @@ impl<S: Source> Input<S> {
     /// The source, of which nothing was taken yet.
     pub(crate) fn new(source: S) -> Input<S>
         ensures { result ≡ record {
-          left = S.left source;
-          faults = S.faults source;
-          source = S.left source;
+          left = (S.told source).left;
+          faults = (S.told source).faults;
+          source = (S.told source).left;
         } }
     {
         Input {
@@ -114,9 +114,9 @@ impl<S: Source> Input<S> {
 
     /// The source, from which whole blocks were taken.
     pub(crate) fn back(self) -> S
-        ensures faults { S.faults result ≡ self.faults }
-        ensures left { GivesSome self.left (S.left result) }
-        ensures source { S.left result ≡ self.source }
+        ensures faults { (S.told result).faults ≡ self.faults }
+        ensures left { GivesSome self.left (S.told result).left }
+        ensures source { (S.told result).left ≡ self.source }
     {
         self.source
     }

@@ -150,20 +150,21 @@ fn step<S: Source>(
 impl<S: Source> Reader<S> {
     /// The reader of a log, and its header. A refusal returns the source.
     pub fn open(alloc: Global, source: S) -> Result<(Reader<S>, Header), Refused<S>>
-        ensures header { IfOk result (λ p. IfSome (S.left source)
+        ensures header { IfOk result (λ p. IfSome (S.told source).left
             (λ bytes. IsSomeAnd p.0.left
             (λ rest. header_at bytes ≡ Ok ((p.0.stage.version, p.1), rest)))) }
         ensures stage { IfOk result (λ p. p.0.stage
             ≡ first_stage p.0.stage.version p.1.options.injectors) }
         ensures fresh { IfOk result (λ p. p.0.refusal ≡ None) }
-        ensures counts { IfOk result (λ p. S.faults source ≤ p.0.faults) }
-        ensures refused { IfErr result (λ e. IfSome (S.left source)
+        ensures counts { IfOk result (λ p. (S.told source).faults ≤ p.0.faults) }
+        ensures refused { IfErr result (λ e. IfSome (S.told source).left
             (λ bytes. MeansRead e.fault (header_at bytes))) }
         ensures failed { IfErr result (λ e. e.fault ≡ LogFault.Read
-            → Between (S.left source) (S.left e.source) (CutsOff header_at)) }
+            → Between (S.told source).left (S.told e.source).left (CutsOff header_at)) }
         ensures cause { IfErr result (λ e. e.fault ≡ LogFault.Read
-            → Rose (S.faults source) (S.faults e.source)) }
-        ensures refused_counts { IfErr result (λ e. S.faults source ≤ S.faults e.source) }
+            → Rose (S.told source).faults (S.told e.source).faults) }
+        ensures refused_counts { IfErr result
+            (λ e. (S.told source).faults ≤ (S.told e.source).faults) }
     {
         let mut input = Input::new(source);
         match header_of(alloc, &mut input) {
@@ -186,9 +187,9 @@ impl<S: Source> Reader<S> {
     /// The source, from which whole blocks were taken: the last one may hold bytes of lines that
     /// weren't read.
     pub fn back(self) -> S
-        ensures faults { S.faults result ≡ self.faults }
-        ensures left { GivesSome self.left (S.left result) }
-        ensures source { S.left result ≡ self.source }
+        ensures faults { (S.told result).faults ≡ self.faults }
+        ensures left { GivesSome self.left (S.told result).left }
+        ensures source { (S.told result).left ≡ self.source }
     {
         self.input.back()
     }

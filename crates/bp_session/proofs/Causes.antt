@@ -1,8 +1,10 @@
 -- What the outlets are after several steps, and what a fault came of.
-use Rattle.std.proofs.Common.{◌≡◌, refl, ap, sym, subst, ◌∙◌, List, Option, Some, None}
-use Rattle.std.specs.Prelude.{Result, Ok, Err, IfErr, IfSome, IsErrOf, IsErrAnd}
-use Rattle.bp_told.specs.Outlets.{PlainOutlets}
-use Rattle.bp_told.specs.Words.{OutletsLast, IsCaused, BreaksFlushing}
+use Rattle.std.proofs.Common.{◌≡◌, ◌∙◌, arith, refl, ap, sym, subst, List, Option, Some, None}
+use Rattle.std.specs.Prelude.{Result, Ok, Err, IfSome, IsErrOf, IsErrAnd}
+use Rattle.bp_base.specs.Counts.{Rose}
+use Rattle.bp_base.specs.declared.outside.Sink.{Ghosts}
+use Rattle.bp_base.proofs.Following.{rose_from, rose_on}
+use Rattle.bp_told.specs.Logging.{LogFails, LogStays}
 use Rattle.bp_told.specs.declared.fault.RunFault.{RunFault}
 use Rattle.bp_told.specs.declared.fault.RunFault.TheVariants.{Write, LogWrite, Memory}
 use Rattle.bp_told.proofs.Words.{outlets_same, outlets_on, caused_later, caused_still}

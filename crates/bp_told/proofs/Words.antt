@@ -1,6 +1,6 @@
 -- What a call does after another, and what it comes to for all that was told.
-use Rattle.std.proofs.Common.{◌≡◌, ◌⊎◌, ℕ, ◌≤◌, List, [], ◌++◌, length, take, drop, get_or, refl, ap, sym, subst, ◌∙◌, append-nil, arith, inl, inr, Option, Some, None, Ok, Err, ◌<◌}
-use Rattle.std.specs.Prelude.{Result, OnOk, OnErr, IfErr}
+use Rattle.std.proofs.Common.{◌≡◌, ◌⊎◌, ℕ, List, [], ◌++◌, length, drop, refl, ap, sym, subst, ◌∙◌, append-nil, inl, inr, Option, Some, None, Ok, Err, ◌<◌}
+use Rattle.std.specs.Prelude.{Result, OnOk, IfErr}
 use Rattle.bp_base.specs.Counts.{Rose}
 use Rattle.bp_base.specs.Pieces.{Appends, AppendsFront}
 use Rattle.bp_log.specs.Logs.{records_text}
@@ -13,7 +13,8 @@ use Rattle.bp_base.proofs.Following.{rose_from, rose_on, lasts_same, lasts_on}
 use Rattle.bp_told.specs.Outlets.{PlainOutlets}
 use Rattle.bp_told.specs.Pages.{Shows, ShowsFront}
 use Rattle.bp_told.specs.Told.{WritesPart}
-use Rattle.bp_told.specs.Words.{OutletsLast, IsCaused, BreaksPage, BreaksLog, AddsRecords, BreaksRecords, PrintsText, BreaksText, WritesWaiting, BreaksWriting, Tells, BreaksTelling, Flushes, BreaksFlushing}
+use Rattle.bp_told.specs.Words.{OutletsLast, IsCaused, BreaksPage, BreaksLog, AddsRecords, BreaksRecords, PrintsText, BreaksText, WritesWaiting, BreaksWriting, Tells, BreaksTelling, Flushes}
+use Rattle.bp_told.specs.declared.page.TheConstants.{FULL}
 use Rattle.bp_told.specs.declared.fault.RunFault.{RunFault}
 use Rattle.bp_told.specs.declared.fault.RunFault.TheVariants.{Write, LogWrite, Memory}
 use Rattle.bp_told.specs.declared.telling.Telling.{Telling}
@@ -201,7 +202,7 @@ module _ {T : Type 0} (all : List Record) (more : List Line) (old mid new : Plai
       record {
         tells = λ text head first lines t c.
             printed_on text head first mid new b d all lines more (recorded text head first old mid a b all lines t (comes_less text all lines more c) (ap (λ (x : PlainSink). x.written) s.out) s.lines s.kept s.log) c p.out p.log p.behind p.kept;
-        within = λ h. p.within (rw s.lines (h.0, s.within));
+        within = λ h. p.within (subst (λ (x : List ℕ). length x < FULL) (sym s.lines) h.0, s.within);
         kept = p.kept ∙ k;
       }
 

@@ -1,5 +1,5 @@
 -- What was told of a run: of its records to the log, and of its lines to the output.
-use Rattle.std.specs.Prelude.{◌≡◌, ℕ, ◌<◌, List, [], ◌++◌, length, take, Option, Some, IsSome}
+use Rattle.std.specs.Prelude.{◌≡◌, ℕ, ◌<◌, List, [], ◌++◌, length, take, Some, IsSome}
 use Rattle.bp_base.specs.Pieces.{Appends, AppendsFront}
 use Rattle.bp_log.specs.Logs.{records_text}
 use Rattle.bp_log.specs.Texts.{lines_text}

@@ -1,12 +1,12 @@
 -- What each call does to the outlets and to what waits: in full, or up to where it broke off.
-use Rattle.std.specs.Prelude.{◌≡◌, ◌⊎◌, ◌<◌, ℕ, List, [], ◌++◌, length, drop}
+use Rattle.std.specs.Prelude.{◌≡◌, ◌⊎◌, ◌<◌, ℕ, List, ◌++◌, length, drop}
 use Rattle.bp_base.specs.Counts.{Rose}
 use Rattle.bp_base.specs.Pieces.{Appends, AppendsFront}
 use Rattle.bp_log.specs.Logs.{records_text}
 use Rattle.bp_log.specs.declared.record.Record.{Record}
 use Rattle.bp_log.specs.declared.trace.Line.{Line}
 use Rattle.bp_told.specs.Logging.{OfLog, LogGets, LogGetsFront, LogHolds, LogShows, LogShowsFront, LogWaits, LogFails}
-use Rattle.bp_base.specs.Outside.{PlainSink, Lasts}
+use Rattle.bp_base.specs.Outside.{Lasts}
 use Rattle.bp_told.specs.Outlets.{PlainOutlets}
 use Rattle.bp_told.specs.Pages.{Shows, ShowsFront}
 use Rattle.bp_told.specs.Told.{TellsOn, BreaksOff, WritesAll, WritesOut, NothingWaits, IsWithin}

@@ -6,7 +6,7 @@ use Rattle.bp_cli.specs.Outside.{outside}
 use Rattle.bp_cli.proofs.Asking.{asks_one, asks_unread}
 use Rattle.bp_cli.proofs.Replays.{held_told, told_under}
 use Rattle.bp_cli.proofs.Migrations.{caused, judged, unopened}
-use Rattle.bp_feeds.proofs.Going.{rose_from}
+use Rattle.bp_base.proofs.Following.{rose_from}
 use Rattle.bp_cli.proofs.Runs.{risen}
 use Rattle.bp_cli.proofs.migrating.migrate_log.Goals as goal
 

@@ -5,7 +5,7 @@ use Rattle.bp_base.specs.declared.outside.WorldError.{WorldError}
 use Rattle.bp_cli.specs.Outside.{outside}
 use Rattle.bp_cli.proofs.Asking.{asks_one, asks_unread}
 use Rattle.bp_cli.proofs.Replays.{caused, held_told, unopened}
-use Rattle.bp_feeds.proofs.Going.{rose_from}
+use Rattle.bp_base.proofs.Following.{rose_from}
 use Rattle.bp_cli.proofs.Runs.{risen}
 use Rattle.bp_cli.proofs.replaying.replay_log.Goals as goal
 

@@ -11,12 +11,12 @@ pub returns-in-Err-clause-failed : goal.returns-in-Err-clause-failed
 returns-in-Err-clause-failed g c =
     λ h.
     let e : fault_of_log c.in-Err.refused.fault ≡ fault.Log log.Read = search rules in
-    taken_headless (g.S.Source.left c.args.log) (g.S.Source.left c.in-Err.refused.source) (g.K.Sink.written c.args.out.now) (c.in-Err.ensures.failed (is_read c.in-Err.refused.fault e))
+    taken_headless (g.S.Source.told c.args.log).left (g.S.Source.told c.in-Err.refused.source).left (g.K.Sink.told c.args.out.now).written (c.in-Err.ensures.failed (is_read c.in-Err.refused.fault e))
 
 pub returns-in-Ok-clause-failed : goal.returns-in-Ok-clause-failed
 returns-in-Ok-clause-failed g c =
     λ h.
-    subst (λ (t : Option (List ℕ)). Between (g.S.Source.left c.args.log) t (λ bytes rest. MigratesTaken bytes rest (g.K.Sink.written c.args.out.now) (g.K.Sink.written c.migrate_records-ended.new.out)))
+    subst (λ (t : Option (List ℕ)). Between (g.S.Source.told c.args.log).left t (λ bytes rest. MigratesTaken bytes rest (g.K.Sink.told c.args.out.now).written (g.K.Sink.told c.migrate_records-ended.new.out).written))
     (c.migrate_records-ended.ensures.empty h ∙ sym c.back.ensures.source)
-    (taken_whole (g.S.Source.left c.args.log) c.in-Ok.reader.left c.migrate_records-ended.new.reader.left c.in-Ok.reader.stage.version c.in-Ok.header (g.K.Sink.written c.args.out.now) (g.K.Sink.written c.migrate_records-ended.new.out)
+    (taken_whole (g.S.Source.told c.args.log).left c.in-Ok.reader.left c.migrate_records-ended.new.reader.left c.in-Ok.reader.stage.version c.in-Ok.header (g.K.Sink.told c.args.out.now).written (g.K.Sink.told c.migrate_records-ended.new.out).written
     c.in-Ok.ensures.header (c.migrate_records-ended.ensures.failed h))
