@@ -4,6 +4,7 @@ use Rattle.std.specs.Prelude.{IsSomeAnd, nat_eq}
 use Rattle.std.specs.List.{list_any}
 use Rattle.std.proofs.lemmas.Bool.{lt-ltb, le-ltb, ltb-true, ltb-false}
 use Rattle.std.proofs.lemmas.List.{append_cancel_left, length-append}
+use Rattle.bp_base.specs.Outside.{PlainSource}
 use Rattle.js_data.specs.Event.{PlainEvent}
 use Rattle.js_value.specs.Value.{PlainSet}
 use Rattle.js_meaning.specs.Bodies.{Origin}
@@ -220,26 +221,26 @@ all_out a b d old new h e s many w k r less =
 pub lane_on : (m : Mouth) (e f : Ear) → IsLane m e → IsSameEar e f → IsLane m f
 lane_on m e f h s = ((s.0).0 ∙ h.0, (s.0).1 ∙ h.1, (s.0).2 ∙ h.2, (s.0).3 ∙ h.3)
 
-module _ {S : Type 0} (left : S → Option (List ℕ)) (faults : S → ℕ) where
+module _ {S : Type 0} (told : S → PlainSource) where
   -- an injector was heard further
-  pub heard_as : (old new : Reading S) → new.started ≡ old.started → IsSameEar old.hearing.ear new.hearing.ear → GoesOnAs left faults old new
+  pub heard_as : (old new : Reading S) → new.started ≡ old.started → IsSameEar old.hearing.ear new.hearing.ear → GoesOnAs told old new
   heard_as old new e s =
       record {
         held = λ h. subst (λ (x : Started S). IsTied x new.hearing.ear) (sym e) (record { started = h.started; lane = lane_on (feed_of old.started).mouth old.hearing.ear new.hearing.ear h.lane s });
-        from = λ source h. subst (λ (x : Started S). IsFrom left faults source (feed_of x)) (sym e) h;
+        from = λ source h. subst (λ (x : Started S). IsFrom told source (feed_of x)) (sym e) h;
       }
 
-  pub goes_none : (r : Reading S) → GoesOnAs left faults r r
+  pub goes_none : (r : Reading S) → GoesOnAs told r r
   goes_none r = record { held = λ h. h; from = λ source h. h }
 
-  pub goes_both : (x y z : Reading S) → GoesOnAs left faults x y → GoesOnAs left faults y z → GoesOnAs left faults x z
+  pub goes_both : (x y z : Reading S) → GoesOnAs told x y → GoesOnAs told y z → GoesOnAs told x z
   goes_both x y z g h = record { held = λ k. h.held (g.held k); from = λ source k. h.from source (g.from source k) }
 
-  pub go_none : (xs : List (Reading S)) → Pairs (GoesOnAs left faults) xs xs
+  pub go_none : (xs : List (Reading S)) → Pairs (GoesOnAs told) xs xs
   go_none [] = tt
   go_none (x ∷ xs) = (goes_none x, go_none xs)
 
-  pub go_both : (xs ys zs : List (Reading S)) → Pairs (GoesOnAs left faults) xs ys → Pairs (GoesOnAs left faults) ys zs → Pairs (GoesOnAs left faults) xs zs
+  pub go_both : (xs ys zs : List (Reading S)) → Pairs (GoesOnAs told) xs ys → Pairs (GoesOnAs told) ys zs → Pairs (GoesOnAs told) xs zs
   go_both [] [] [] g h = tt
   go_both [] [] (z ∷ zs) g h = absurd h
   go_both [] (y ∷ ys) zs g h = absurd g
@@ -247,13 +248,13 @@ module _ {S : Type 0} (left : S → Option (List ℕ)) (faults : S → ℕ) wher
   go_both (x ∷ xs) (y ∷ ys) [] g h = absurd h
   go_both (x ∷ xs) (y ∷ ys) (z ∷ zs) g h = (goes_both x y z g.0 h.0, go_both xs ys zs g.1 h.1)
 
-  go_set : (ys : List (Reading S)) (i : ℕ) (d new : Reading S) → i < length ys → GoesOnAs left faults (slice_index_or ys i d) new → Pairs (GoesOnAs left faults) ys (set ys i new)
+  go_set : (ys : List (Reading S)) (i : ℕ) (d new : Reading S) → i < length ys → GoesOnAs told (slice_index_or ys i d) new → Pairs (GoesOnAs told) ys (set ys i new)
   go_set [] i d new less g = absurd (omega arith)
   go_set (y ∷ ys) zero d new less g = (g, go_none ys)
   go_set (y ∷ ys) (suc i) d new less g = (goes_none y, go_set ys i d new (omega arith) g)
 
   -- one of them went on
-  pub go_one : (xs ys : List (Reading S)) (i : ℕ) (d new : Reading S) → Pairs (GoesOnAs left faults) xs ys → i < length ys → GoesOnAs left faults (slice_index_or ys i d) new → Pairs (GoesOnAs left faults) xs (set ys i new)
+  pub go_one : (xs ys : List (Reading S)) (i : ℕ) (d new : Reading S) → Pairs (GoesOnAs told) xs ys → i < length ys → GoesOnAs told (slice_index_or ys i d) new → Pairs (GoesOnAs told) xs (set ys i new)
   go_one xs ys i d new p less g = go_both xs ys (set ys i new) p (go_set ys i d new less g)
 
 -- they are heard as far as before

@@ -4,6 +4,7 @@ use Rattle.std.specs.Prelude.{IfSome}
 use Rattle.std.proofs.lemmas.Bool.{or_right}
 use Rattle.std.proofs.lemmas.List.Folds.{list_any-append}
 use Rattle.std.proofs.lemmas.List.Elements.{All-nil, All-cons, All-head, All-tail}
+use Rattle.bp_base.specs.Outside.{PlainSource}
 use Rattle.bp_log.specs.declared.item.Item.{Item}
 use Rattle.bp_log.specs.declared.item.Item.TheVariants.{Failed}
 use Rattle.bp_log.specs.declared.record.Record.{Record}
@@ -56,66 +57,66 @@ any_of (x ∷ xs) k h = x
 
 -- ---- injectors
 
-module _ {S : Type 0} (left : S → Option (List ℕ)) (faults : S → ℕ) where
+module _ {S : Type 0} (told : S → PlainSource) where
   -- nothing was heard of injectors that were just started
-  pub started_heard : (sources : List S) (readings : List (Reading S)) → Pairs (IsStartedOf left faults) sources readings → (records : List Record) → records ≡ [] → AreHeard (λ (r : Reading S). r.hearing) records readings
+  pub started_heard : (sources : List S) (readings : List (Reading S)) → Pairs (IsStartedOf told) sources readings → (records : List Record) → records ≡ [] → AreHeard (λ (r : Reading S). r.hearing) records readings
   started_heard sources readings p records e = λ k d l.
-      let many = pairs_many (IsStartedOf left faults) sources readings p in
+      let many = pairs_many (IsStartedOf told) sources readings p in
       let less : k < length sources = omega (arith, many, l) in
-      let s = pairs_at (IsStartedOf left faults) sources readings k (any_of sources k less) d p less in
+      let s = pairs_at (IsStartedOf told) sources readings k (any_of sources k less) d p less in
       s.untaken ∙ ap (λ (o : Option Item). [] ++ option_to_list o) (sym s.unkept) ∙ ap (λ (rs : List Record). items_by k rs ++ option_to_list (slice_index_or readings k d).hearing.kept) (sym e)
 
-  pub started_held : (sources : List S) (readings : List (Reading S)) → Pairs (IsStartedOf left faults) sources readings → All IsHeld readings
-  started_held sources readings p = pairs_second (IsStartedOf left faults) IsHeld (λ x y s. s.held) sources readings p
+  pub started_held : (sources : List S) (readings : List (Reading S)) → Pairs (IsStartedOf told) sources readings → All IsHeld readings
+  started_held sources readings p = pairs_second (IsStartedOf told) IsHeld (λ x y s. s.held) sources readings p
 
-  pub held_on : (old new : List (Reading S)) → Pairs (GoesOnAs left faults) old new → All IsHeld old → All IsHeld new
-  held_on old new p a = pairs_all (GoesOnAs left faults) IsHeld IsHeld (λ x y s h. s.held h) old new p a
+  pub held_on : (old new : List (Reading S)) → Pairs (GoesOnAs told) old new → All IsHeld old → All IsHeld new
+  held_on old new p a = pairs_all (GoesOnAs told) IsHeld IsHeld (λ x y s h. s.held h) old new p a
 
   -- one injector was joined
   pub joined_as : (r : Reading S) (back : S) (offers : List Item) (behind : List Item) → offers ≡ taken r.hearing.ear ++ behind → (over : Type 0) →
-      ((source : S) → IsFrom left faults source (feed_of r.started) → CameBack left faults source back offers over) → IsJoined left faults r back
+      ((source : PlainSource) → IsFrom told source (feed_of r.started) → CameBack source (told back) offers over) → IsJoined told r back
   joined_as r back offers behind e over h =
       record {
         behind = behind;
         came = λ source f.
             let c = h source f in
-            subst (λ (xs : List Item). HasOffered left faults source back xs) e (record { begins = c.begins; cause = c.cause; told = c.told; counts = c.counts });
+            subst (λ (xs : List Item). HasOffered source (told back) xs) e (record { begins = c.begins; cause = c.cause; spares = c.spares; counts = c.counts });
       }
 
   fault_in : (xs ks : List Item) → has_fault (xs ++ Failed ∷ ks) ≡ true
   fault_in xs ks = list_any-append is_fault xs (Failed ∷ ks) ∙ or_right (has_fault xs) true refl
 
-  module _ (sources : List S) (start readings : List (Reading S)) (back : List S) (records : List Record) (s : Pairs (IsStartedOf left faults) sources start) (g : Pairs (GoesOnAs left faults) start readings)
-      (j : Pairs (IsJoined left faults) readings back) (heard : AreHeard (λ (r : Reading S). r.hearing) records readings) where
+  module _ (sources : List S) (start readings : List (Reading S)) (back : List S) (records : List Record) (s : Pairs (IsStartedOf told) sources start) (g : Pairs (GoesOnAs told) start readings)
+      (j : Pairs (IsJoined told) readings back) (heard : AreHeard (λ (r : Reading S). r.hearing) records readings) where
     as_many : length readings ≡ length sources
-    as_many = pairs_many (GoesOnAs left faults) start readings g ∙ pairs_many (IsStartedOf left faults) sources start s
+    as_many = pairs_many (GoesOnAs told) start readings g ∙ pairs_many (IsStartedOf told) sources start s
 
     pub back_many : length back ≡ length sources
-    back_many = pairs_many (IsJoined left faults) readings back j ∙ as_many
+    back_many = pairs_many (IsJoined told) readings back j ∙ as_many
 
     -- what the injector of this number had offered
     record OffersAt (k : ℕ) (d : S) (r : Reading S) : Type 0 where
       behind : List Item
-      offered : HasOffered left faults (slice_index_or sources k d) (slice_index_or back k d) ((items_by k records ++ option_to_list (slice_index_or readings k r).hearing.kept) ++ behind)
+      offered : HasOffered (told (slice_index_or sources k d)) (told (slice_index_or back k d)) ((items_by k records ++ option_to_list (slice_index_or readings k r).hearing.kept) ++ behind)
 
     offers_at : (k : ℕ) (d : S) (r : Reading S) → k < length sources → OffersAt k d r
     offers_at k d r l =
         let many = as_many in
-        let first = pairs_many (IsStartedOf left faults) sources start s in
+        let first = pairs_many (IsStartedOf told) sources start s in
         let there : k < length readings = omega (arith, many, l) in
         let began : k < length start = omega (arith, first, l) in
-        let x = pairs_at (IsStartedOf left faults) sources start k d r s l in
-        let y = pairs_at (GoesOnAs left faults) start readings k r r g began in
-        let z = pairs_at (IsJoined left faults) readings back k r d j there in
+        let x = pairs_at (IsStartedOf told) sources start k d r s l in
+        let y = pairs_at (GoesOnAs told) start readings k r r g began in
+        let z = pairs_at (IsJoined told) readings back k r d j there in
         record {
           behind = z.behind;
-          offered = subst (λ (ts : List Item). HasOffered left faults (slice_index_or sources k d) (slice_index_or back k d) (ts ++ z.behind)) (heard k r there) (z.came (slice_index_or sources k d) (y.from (slice_index_or sources k d) x.from));
+          offered = subst (λ (ts : List Item). HasOffered (told (slice_index_or sources k d)) (told (slice_index_or back k d)) (ts ++ z.behind)) (heard k r there) (z.came (told (slice_index_or sources k d)) (y.from (told (slice_index_or sources k d)) x.from));
         }
 
     some_reading : (k : ℕ) → k < length sources → Reading S
     some_reading k l = let many = as_many in any_of readings k (omega (arith, many, l))
 
-    pub are_back : AreBack left faults sources back records
+    pub are_back : AreBack told sources back records
     are_back =
         record {
           each = λ k d l.
@@ -123,11 +124,11 @@ module _ {S : Type 0} (left : S → Option (List ℕ)) (faults : S → ℕ) wher
               let kept = option_to_list (slice_index_or readings k (some_reading k l)).hearing.kept in
               record {
                 behind = kept ++ o.behind;
-                offered = subst (λ (xs : List Item). HasOffered left faults (slice_index_or sources k d) (slice_index_or back k d) xs) (append_assoc (items_by k records) kept o.behind) o.offered;
+                offered = subst (λ (xs : List Item). HasOffered (told (slice_index_or sources k d)) (told (slice_index_or back k d)) xs) (append_assoc (items_by k records) kept o.behind) o.offered;
               };
         }
 
-    pub has_broken : (k : ℕ) → HasFailed readings k → HasBroken left faults sources back records k
+    pub has_broken : (k : ℕ) → HasFailed readings k → HasBroken told sources back records k
     has_broken k f =
         let many = as_many in
         let there = f.there in
@@ -139,10 +140,10 @@ module _ {S : Type 0} (left : S → Option (List ℕ)) (faults : S → ℕ) wher
               let o = offers_at k d r l in
               let e : ((items_by k records ++ option_to_list (slice_index_or readings k r).hearing.kept) ++ o.behind) ≡ items_by k records ++ Failed ∷ o.behind =
               ap (λ (x : Option Item). (items_by k records ++ option_to_list x) ++ o.behind) (f.kept r) ∙ append_assoc (items_by k records) (Failed ∷ []) o.behind in
-              let offered = subst (λ (xs : List Item). HasOffered left faults (slice_index_or sources k d) (slice_index_or back k d) xs) e o.offered in
+              let offered = subst (λ (xs : List Item). HasOffered (told (slice_index_or sources k d)) (told (slice_index_or back k d)) xs) e o.offered in
               record { behind = o.behind; begins = offered.begins; rose = offered.cause (fault_in (items_by k records) o.behind) };
         }
 
-    pub broken_if : (b : Option ℕ) → IfSome b (HasFailed readings) → IfSome b (HasBroken left faults sources back records)
+    pub broken_if : (b : Option ℕ) → IfSome b (HasFailed readings) → IfSome b (HasBroken told sources back records)
     broken_if None h = h
     broken_if (Some k) h = has_broken k h

@@ -3,6 +3,7 @@ use Rattle.std.proofs.Common.{◌≡◌, ◌<◌, ℕ, Bool, true, false, ◌||�
 use Rattle.std.specs.List.{cons_option}
 use Rattle.std.specs.Prelude.{option_map, IfSome}
 use Rattle.std.proofs.lemmas.Bool.{or_right}
+use Rattle.bp_base.specs.Outside.{PlainSource}
 use Rattle.js_data.proofs.Shared.{one_answer}
 use Rattle.js_program.specs.PlainProgram.{PlainProgram}
 use Rattle.js_value.specs.Value.{PlainSet}
@@ -107,43 +108,43 @@ module _ (j : ℕ) where
   end_heard (Sel e ∷ rs) h k = end_heard rs h k
   end_heard (End v ∷ rs) h k = end_heard rs h k
 
-module _ {S : Type 0} (left : S → Option (List ℕ)) (faults : S → ℕ) (sources back : List S) (records : List Record) (came : AreBack left faults sources back records) where
-  pub each_heard : EachHeard left sources back records
-  each_heard k d less = let b = came.each k d less in heard_back k records b.behind (left (slice_index_or sources k d)) (left (slice_index_or back k d)) (b.offered).begins
+module _ {S : Type 0} (told : S → PlainSource) (sources back : List S) (records : List Record) (came : AreBack told sources back records) where
+  pub each_heard : EachHeard told sources back records
+  each_heard k d less = let b = came.each k d less in heard_back k records b.behind (told (slice_index_or sources k d)).left (told (slice_index_or back k d)).left (b.offered).begins
 
-  pub come_back : length back ≡ length sources → ComeBack left faults sources back records
+  pub come_back : length back ≡ length sources → ComeBack told sources back records
   come_back e = record { many = e; counts = λ k d less. ((came.each k d less).offered).counts }
 
   -- a quiet run that waits heard everyone
   pub each_whole : (l : Code Origin PlainSet) (o : PlainOptions) (c : Configuration Origin) (n : ℕ) → o.wait ≡ true → length sources ≡ o.injectors → story l o records ≡ Some c → verdict_of records ≡ Some (verdict.Quiet n) →
-      EachHeardWhole left sources back records
+      EachHeardWhole told sources back records
   each_whole l o c n waits e h v k d less =
       let b = came.each k d less in
       let there : k < o.injectors = subst (λ (m : ℕ). k < m) e less in
-      heard_whole k records b.behind (left (slice_index_or sources k d)) (left (slice_index_or back k d)) (b.offered).begins
+      heard_whole k records b.behind (told (slice_index_or sources k d)).left (told (slice_index_or back k d)).left (b.offered).begins
       (end_heard k records (quiet_heard l o records n k c waits h v there) (quiet_good l o records n c h v))
 
   -- and none of them failed
   pub none_failed : (l : Code Origin PlainSet) (o : PlainOptions) (c : Configuration Origin) (n : ℕ) → o.wait ≡ true → length sources ≡ o.injectors → story l o records ≡ Some c → verdict_of records ≡ Some (verdict.Quiet n) →
-      NoneFailed faults sources back
+      NoneFailed told sources back
   none_failed l o c n waits e h v k d less =
       let b = came.each k d less in
       let there : k < o.injectors = subst (λ (m : ℕ). k < m) e less in
-      let sound = sound_whole (left (slice_index_or sources k d)) (left (slice_index_or back k d)) (items_by k records) b.behind (b.offered).begins
+      let sound = sound_whole (told (slice_index_or sources k d)).left (told (slice_index_or back k d)).left (items_by k records) b.behind (b.offered).begins
       (end_heard k records (quiet_heard l o records n k c waits h v there) (quiet_good l o records n c h v)) in
-      (b.offered).told sound.0 sound.1
+      (b.offered).spares sound.0 sound.1
 
   pub whole_at : (l : Code Origin PlainSet) (o : PlainOptions) (c : Configuration Origin) (v : logs.Verdict) → length sources ≡ o.injectors → story l o records ≡ Some c → verdict_of records ≡ Some v → o.wait ≡ true → IsQuiet v →
-      EachHeardWhole left sources back records × NoneFailed faults sources back
+      EachHeardWhole told sources back records × NoneFailed told sources back
   whole_at l o c (verdict.Quiet n) e h w waits q = (each_whole l o c n waits e h w, none_failed l o c n waits e h w)
   whole_at l o c _ e h w waits q = absurd q
 
-  pub broke_at_source : (j : ℕ) → HasBroken left faults sources back records j → BrokeAt left faults sources back records j
+  pub broke_at_source : (j : ℕ) → HasBroken told sources back records j → BrokeAt told sources back records j
   broke_at_source j b =
       record {
         there = b.there;
         rose = λ d. (b.broken d).rose;
-        heard = λ d. let x = b.broken d in heard_to_fault j records x.behind (left (slice_index_or sources j d)) (left (slice_index_or back j d)) x.begins;
+        heard = λ d. let x = b.broken d in heard_to_fault j records x.behind (told (slice_index_or sources j d)).left (told (slice_index_or back j d)).left x.begins;
       }
 
 -- ---- the report
@@ -172,15 +173,15 @@ module _ (l : Code Origin PlainSet) (o : PlainOptions) (head : List ℕ) (first 
   behind_ended ending.LogWrite i = behind_front l o head first c now i
   behind_ended ending.Memory i = behind_front l o head first c now i
 
-  module _ {S : Type 0} (left : S → Option (List ℕ)) (source_faults : S → ℕ) (sources back : List S)
-      (came : AreBack left source_faults sources back c.arbiter.records) (many : length sources ≡ o.injectors) where
+  module _ {S : Type 0} (told : S → PlainSource) (sources back : List S)
+      (came : AreBack told sources back c.arbiter.records) (many : length sources ≡ o.injectors) where
     pub ends_as : (e : Ending) → IsEnded l o head first c now e → IfSome (ended_fault e) (IsCaused first now) →
-        IfSome (broke_at e) (HasBroken left source_faults sources back c.arbiter.records) →
-        EndsAs l o head first.out now.out first.log now.log left source_faults sources back c.arbiter.records e
+        IfSome (broke_at e) (HasBroken told sources back c.arbiter.records) →
+        EndsAs l o head first.out now.out first.log now.log told sources back c.arbiter.records e
     ends_as (ending.Verdict v) i k b =
         let t = told_of l o c.arbiter.records (text_whole l o head first c now i.1) in
-        (i.0, wholly l o head first c now i.1, λ waits q. whole_at left source_faults sources back c.arbiter.records came l o t.0 v many t.1 i.0 waits q)
-    ends_as (ending.Read j) i k b = (i.0, wholly l o head first c now i.1, broke_at_source left source_faults sources back c.arbiter.records came j b, i.2)
+        (i.0, wholly l o head first c now i.1, λ waits q. whole_at told sources back c.arbiter.records came l o t.0 v many t.1 i.0 waits q)
+    ends_as (ending.Read j) i k b = (i.0, wholly l o head first c now i.1, broke_at_source told sources back c.arbiter.records came j b, i.2)
     ends_as ending.Write i k b = (partly l o head first c now i, k)
     ends_as ending.LogWrite i k b = (partly l o head first c now i, k)
     ends_as ending.Memory i k b = partly l o head first c now i
@@ -216,16 +217,16 @@ all_told : (a : Option (List ℕ)) → IsAll a ([] ++ all_of a)
 all_told None = tt
 all_told (Some bytes) = refl
 
-module _ {S : Type 0} (left : S → Option (List ℕ)) (faults : S → ℕ) (sources : List S) where
-  pub nothing_heard : EachHeard left sources sources []
+module _ {S : Type 0} (told : S → PlainSource) (sources : List S) where
+  pub nothing_heard : EachHeard told sources sources []
   nothing_heard k d less =
-      let a = left (slice_index_or sources k d) in
+      let a = (told (slice_index_or sources k d)).left in
       record { took = []; rest = all_of a; taken = nothing_given a; told = all_told a; begins = (items ([] ++ all_of a), refl) }
 
-  pub nothing_lost : ComeBack left faults sources sources []
+  pub nothing_lost : ComeBack told sources sources []
   nothing_lost = record { many = refl; counts = λ k d less. omega arith }
 
 -- of none, each is back
-pub none_back : {S : Type 0} (left : S → Option (List ℕ)) (faults : S → ℕ) (sources backs : List S) (records : List Record) → sources ≡ [] → AreBack left faults sources backs records
-none_back left faults sources backs records e =
+pub none_back : {S : Type 0} (told : S → PlainSource) (sources backs : List S) (records : List Record) → sources ≡ [] → AreBack told sources backs records
+none_back told sources backs records e =
     record { each = λ k d less. absurd (let none = ap length e in omega (arith, none, less)) }

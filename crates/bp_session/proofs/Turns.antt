@@ -4,6 +4,7 @@ use Rattle.std.specs.Prelude.{Result, Ok, not, ◌&&◌}
 use Rattle.std.specs.List.{list_any}
 use Rattle.std.proofs.lemmas.Bool.{cases_eq, or_parts, both_ways}
 use Rattle.std.proofs.lemmas.List.{get_or_default}
+use Rattle.bp_base.specs.Outside.{PlainSource}
 use Rattle.bp_log.specs.declared.item.Item.{Item}
 use Rattle.bp_lanes.specs.declared.ends.Mouth.{Mouth}
 use Rattle.bp_lanes.specs.declared.ends.Ear.{Ear}
@@ -78,13 +79,13 @@ module _ {S : Type 0} where
       let many = h.many in
       record { many = length-set items i new ∙ many; each = λ k d e l. as_heard_at old items i a new low h same k d e l (cases_eq k i) }
 
-module _ {S : Type 0} (left : S → Option (List ℕ)) (faults : S → ℕ) where
+module _ {S : Type 0} (told : S → PlainSource) where
   -- the same injector
-  pub as_started : (r : Reading S) (s : Started S) → r.started ≡ s → GoesOnAs left faults r (record r { started = s })
-  as_started r s e = subst (λ (x : Started S). GoesOnAs left faults r (record r { started = x })) e (goes_none left faults r)
+  pub as_started : (r : Reading S) (s : Started S) → r.started ≡ s → GoesOnAs told r (record r { started = s })
+  as_started r s e = subst (λ (x : Started S). GoesOnAs told r (record r { started = x })) e (goes_none told r)
 
   -- the feed of an injector went on
-  pub feed_goes : (old new : Reading S) (f g : Feed S) → old.started ≡ started.Alone f → new.started ≡ started.Alone g → new.hearing ≡ old.hearing → GoesOn left faults f g → GoesOnAs left faults old new
+  pub feed_goes : (old new : Reading S) (f g : Feed S) → old.started ≡ started.Alone f → new.started ≡ started.Alone g → new.hearing ≡ old.hearing → GoesOn told f g → GoesOnAs told old new
   feed_goes old new f g a b same on =
       record {
         held = λ h.
@@ -92,5 +93,5 @@ module _ {S : Type 0} (left : S → Option (List ℕ)) (faults : S → ℕ) wher
             subst (λ (x : Started S). IsTied x new.hearing.ear) (sym b)
             (record { started = tt; lane = subst (λ (y : Hearing). IsLane g.mouth y.ear) (sym same) (mouth_on f.mouth g.mouth old.hearing.ear tied.lane on.lane) });
         from = λ source h.
-            subst (λ (x : Started S). IsFrom left faults source (feed_of x)) (sym b) (from_on left faults source f g (subst (λ (x : Started S). IsFrom left faults source (feed_of x)) a h) on);
+            subst (λ (x : Started S). IsFrom told source (feed_of x)) (sym b) (from_on told source f g (subst (λ (x : Started S). IsFrom told source (feed_of x)) a h) on);
       }

@@ -1,6 +1,7 @@
 -- What was heard of sources, by what each had at the start and what it has left, where it tells them.
 use Rattle.std.specs.Prelude.{◌≡◌, ℕ, ◌<◌, List, [], ◌∷◌, ◌++◌, length, Option, Some, IfSome, slice_index_or}
 use mathlib.Core.List.{IsPrefix}
+use Rattle.bp_base.specs.Outside.{PlainSource}
 use Rattle.bp_base.specs.Pieces.{Gives}
 use Rattle.bp_log.specs.declared.item.Item.{Item}
 use Rattle.bp_log.specs.declared.item.Item.TheVariants.{Failed}
@@ -33,13 +34,13 @@ pub record IsHeardToFault (start left : Option (List ℕ)) (heard : List Item) :
   pub all : heard ++ Failed ∷ [] ≡ items_before_fault took
 
 -- of each source, by its number, what the records say of it was heard
-abbrev pub EachHeard : {S : Type 0} → (S → Option (List ℕ)) → List S → List S → List Record → Type 0
-EachHeard {S = S} left sources back records =
+abbrev pub EachHeard : {S : Type 0} → (S → PlainSource) → List S → List S → List Record → Type 0
+EachHeard {S = S} told sources back records =
     (k : ℕ) (d : S) → k < length sources
-    → IsHeard (left (slice_index_or sources k d)) (left (slice_index_or back k d)) (items_by k records)
+    → IsHeard (told (slice_index_or sources k d)).left (told (slice_index_or back k d)).left (items_by k records)
 
 -- and all of each source was
-abbrev pub EachHeardWhole : {S : Type 0} → (S → Option (List ℕ)) → List S → List S → List Record → Type 0
-EachHeardWhole {S = S} left sources back records =
+abbrev pub EachHeardWhole : {S : Type 0} → (S → PlainSource) → List S → List S → List Record → Type 0
+EachHeardWhole {S = S} told sources back records =
     (k : ℕ) (d : S) → k < length sources
-    → IsHeardWhole (left (slice_index_or sources k d)) (left (slice_index_or back k d)) (items_by k records)
+    → IsHeardWhole (told (slice_index_or sources k d)).left (told (slice_index_or back k d)).left (items_by k records)

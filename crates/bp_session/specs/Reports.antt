@@ -3,7 +3,7 @@ use Rattle.std.specs.Prelude.{◌≡◌, ◌≤◌, ℕ, ◌<◌, true, false, L
 use Rattle.js_value.specs.Value.{PlainSet}
 use Rattle.js_meaning.specs.Bodies.{Origin}
 use Rattle.bp_base.specs.Counts.{Rose}
-use Rattle.bp_base.specs.Outside.{PlainSink}
+use Rattle.bp_base.specs.Outside.{PlainSink, PlainSource}
 use Rattle.bp_base.specs.Pieces.{Appends, AppendsFront}
 use Rattle.bp_log.specs.Logs.{records_text}
 use Rattle.bp_log.specs.Options.{PlainOptions}
@@ -39,31 +39,31 @@ module _ (text : Texts) (head : List ℕ) (records : List Record) (out_old out_n
     pub logs : LogGetsFront log_old (head ++ records_text records) log_new
 
 -- no source failed: the count of each is what it was
-abbrev pub NoneFailed : {S : Type 0} → (S → ℕ) → List S → List S → Type 0
-NoneFailed {S = S} faults sources back =
+abbrev pub NoneFailed : {S : Type 0} → (S → PlainSource) → List S → List S → Type 0
+NoneFailed {S = S} told sources back =
     (k : ℕ) (d : S) → k < length sources
-    → faults (slice_index_or back k d) ≡ faults (slice_index_or sources k d)
+    → (told (slice_index_or back k d)).faults ≡ (told (slice_index_or sources k d)).faults
 
-module _ {S : Type 0} (left : S → Option (List ℕ)) (faults : S → ℕ) (sources back : List S)
+module _ {S : Type 0} (told : S → PlainSource) (sources back : List S)
     (records : List Record) where
   -- Injector j is there, its source failed, and what was heard of it are the items of the whole
   -- lines that it gave before.
   pub record BrokeAt (j : ℕ) : Type 0 where
     pub there : j < length sources
     pub rose : (d : S)
-        → Rose (faults (slice_index_or sources j d)) (faults (slice_index_or back j d))
-    pub heard : (d : S) → IsHeardToFault (left (slice_index_or sources j d))
-        (left (slice_index_or back j d)) (items_by j records)
+        → Rose (told (slice_index_or sources j d)).faults (told (slice_index_or back j d)).faults
+    pub heard : (d : S) → IsHeardToFault (told (slice_index_or sources j d)).left
+        (told (slice_index_or back j d)).left (items_by j records)
 
   -- the inputs come back in order, and their counts of faults never fall
   pub record ComeBack : Type 0 where
     pub many : length back ≡ length sources
     pub counts : (k : ℕ) (d : S) → k < length sources
-        → faults (slice_index_or sources k d) ≤ faults (slice_index_or back k d)
+        → (told (slice_index_or sources k d)).faults ≤ (told (slice_index_or back k d)).faults
 
 module _ {S : Type 0} (l : Code Origin PlainSet) (o : PlainOptions) (head : List ℕ)
     (out_old out_new : PlainSink)
-    (log_old log_new : Option PlainSink) (left : S → Option (List ℕ)) (faults : S → ℕ) (sources back : List S)
+    (log_old log_new : Option PlainSink) (told : S → PlainSource) (sources back : List S)
     (records : List Record) where
   -- What each ending says. Where the run waits for its injectors and comes to be quiet, each of them was
   -- heard to its end and none failed; where one failed, there was no verdict before.
@@ -71,10 +71,10 @@ module _ {S : Type 0} (l : Code Origin PlainSet) (o : PlainOptions) (head : List
   EndsAs (Verdict v) =
       (verdict_of records ≡ Some v) × Wholly (text l o) head records out_old out_new log_old log_new
       × (o.wait ≡ true → IsQuiet v
-      → EachHeardWhole left sources back records × NoneFailed faults sources back)
+      → EachHeardWhole told sources back records × NoneFailed told sources back)
   EndsAs (Read j) =
       (is_complete records ≡ false) × Wholly (text l o) head records out_old out_new log_old log_new
-      × BrokeAt left faults sources back records j × HasNoVerdict l o records
+      × BrokeAt told sources back records j × HasNoVerdict l o records
   EndsAs Write = Partly (text l o) head records out_old out_new log_old log_new × Rose out_old.faults out_new.faults
   EndsAs LogWrite = Partly (text l o) head records out_old out_new log_old log_new × LogFails log_old log_new
   EndsAs Memory = Partly (text l o) head records out_old out_new log_old log_new

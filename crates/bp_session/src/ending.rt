@@ -130,7 +130,7 @@ impl<K: Sink, L: Sink, V: Shows> Service<'_, '_, K, L, V> {
         requires can { CanServe (run_of self.old) readings.old.items }
         ensures ends { EndsServing (run_of self.old) (run_of self.new) result }
         ensures broke { IfSome (broke_at result) (HasFailed readings.new.items) }
-        ensures hears { HearOn S.left S.faults self.new.core.arbiter.records readings.old.items
+        ensures hears { HearOn S.told self.new.core.arbiter.records readings.old.items
             readings.new.items }
         ensures writes { WritesTo self.old.outlets self.new.outlets (ended_fault result) }
     {
@@ -149,7 +149,7 @@ impl<K: Sink, L: Sink, S: Source + Drop, V: Shows> Served<'_, '_, K, L, S, V> {
         ensures served { IsServed self.old self.new }
         ensures broke { broke_at self.new.end ≡ None }
         ensures many { length self.new.back.items ≡ length inputs.items }
-        ensures back { AreBack S.left S.faults inputs.items self.new.back.items
+        ensures back { AreBack S.told inputs.items self.new.back.items
             self.new.service.core.arbiter.records }
     {
         let mut readings: Vec<Reading<S>> = Vec::new(self.service.alloc);
@@ -185,7 +185,7 @@ impl<K: Sink, L: Sink, S: Source + Drop, R: Threads + Wait + Sync, V: Shows> Ser
         ensures served { IsServed self.old self.new }
         ensures heard { AreHeard (λ r. r.hearing) self.new.service.core.arbiter.records
             readings.new.items }
-        ensures goes_on { Pairs (GoesOnAs S.left S.faults) readings.old.items readings.new.items }
+        ensures goes_on { Pairs (GoesOnAs S.told) readings.old.items readings.new.items }
         ensures broke { IfSome (broke_at self.new.end) (HasFailed readings.new.items) }
     {
         self.end = self.service.serve_to_end(rt, Some(Calls::new(bell)), readings);

@@ -144,7 +144,7 @@ fn hear_reading<S: Source>(
     ensures hears { HearsOn core.old core.new }
     ensures one { IsHeardOn number core.old.arbiter.records reading.old core.new.arbiter.records
         reading.new }
-    ensures goes_on { GoesOnAs S.left S.faults reading.old reading.new }
+    ensures goes_on { GoesOnAs S.told reading.old reading.new }
     ensures some { IfOk result (λ some. some
         ≡ nat_lt (length core.old.arbiter.records) (length core.new.arbiter.records)) }
     ensures was { OnOk result (WasHeard core.old core.new number reading.old reading.new) }
@@ -171,7 +171,7 @@ pub(crate) fn hear_all<S: Source>(
     requires heard { AreHeard (λ r. r.hearing) core.old.arbiter.records readings.old.items }
     ensures hears { HearsOn core.old core.new }
     ensures heard { AreHeard (λ r. r.hearing) core.new.arbiter.records readings.new.items }
-    ensures goes_on { Pairs (GoesOnAs S.left S.faults) readings.old.items readings.new.items }
+    ensures goes_on { Pairs (GoesOnAs S.told) readings.old.items readings.new.items }
     ensures some { IfOk result (λ some. some
         ≡ nat_lt (length core.old.arbiter.records) (length core.new.arbiter.records)) }
     ensures were { OnOk result (WereHeard core.old core.new readings.old.items readings.new.items) }

@@ -81,10 +81,10 @@ fn serve<S: Source + Send + Drop, R: Threads + Wait + Sync, K: Sink, L: Sink, V:
     requires few { length inputs.items < 2 ^ 32 }
     ensures served { IsServed served.old served.new }
     ensures many { length served.new.back.items ≡ length inputs.items }
-    ensures back { AreBack S.left S.faults inputs.items served.new.back.items
+    ensures back { AreBack S.told inputs.items served.new.back.items
         served.new.service.core.arbiter.records }
     ensures broke { IfSome (broke_at served.new.end)
-        (HasBroken S.left S.faults inputs.items served.new.back.items
+        (HasBroken S.told inputs.items served.new.back.items
         served.new.service.core.arbiter.records) }
 {
     if inputs.is_empty() {
@@ -126,11 +126,11 @@ impl Session {
         ensures legal { let o = header.now.options in let l = code_of program o in
             made_by l o (nodes_of program o) (schedule_of l o result.0.records)
             ≡ Some result.0.records }
-        ensures heard { EachHeard S.left inputs.items result.1.items result.0.records }
-        ensures back { ComeBack S.left S.faults inputs.items result.1.items result.0.records }
+        ensures heard { EachHeard S.told inputs.items result.1.items result.0.records }
+        ensures back { ComeBack S.told inputs.items result.1.items result.0.records }
         ensures ends { EndsAs (code_of program header.now.options) header.now.options
             (header_text Second header.now) (K.told out.old) (K.told out.new)
-            (option_map L.told log.old) (option_map L.told log.new) S.left S.faults inputs.items
+            (option_map L.told log.old) (option_map L.told log.new) S.told inputs.items
             result.1.items result.0.records result.0.end }
 
         // However it ends, what was printed is of the text of records that are in the log.

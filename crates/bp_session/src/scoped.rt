@@ -42,7 +42,7 @@ pub(crate) trait Serves<S: Source + Drop, R: Threads + Wait + Sync> {
         requires held { All IsHeld readings.old.items }
         ensures served { served self.old self.new }
         ensures heard { AreHeard (λ r. r.hearing) (records self.new) readings.new.items }
-        ensures goes_on { Pairs (GoesOnAs S.left S.faults) readings.old.items readings.new.items }
+        ensures goes_on { Pairs (GoesOnAs S.told) readings.old.items readings.new.items }
         ensures broke { IfSome (broke self.new) (HasFailed readings.new.items) };
 
     /// The sources come back.
@@ -62,7 +62,7 @@ fn started<'s, S: Source + Send + Drop + 's, R: Threads + Wait + Sync, E>(
     berth: Berth<S>,
     source: S,
 ) -> Reading<S>
-    ensures { IsStartedOf S.left S.faults source result }
+    ensures { IsStartedOf S.told source result }
 {
     let (started, ear) = start(rt, alloc, scope, bell, berth, source);
     Reading {
@@ -81,7 +81,7 @@ fn start_all<'s, S: Source + Send + Drop + 's, R: Threads + Wait + Sync, E>(
     sources: Vec<S>,
 ) -> (Vec<Reading<S>>, Vec<S>)
     requires { HasRoom places (length sources.items) }
-    ensures started { Pairs (IsStartedOf S.left S.faults) sources.items result.0.items }
+    ensures started { Pairs (IsStartedOf S.told) sources.items result.0.items }
     ensures back { result.1 ≡ places.back }
 {
     let Places {
@@ -101,7 +101,7 @@ fn start_all<'s, S: Source + Send + Drop + 's, R: Threads + Wait + Sync, E>(
 /// Joins an injector.
 fn joined<S: Source + Drop, R: Threads>(rt: &R, reading: Reading<S>) -> S
     requires { IsHeld reading }
-    ensures { IsJoined S.left S.faults reading result }
+    ensures { IsJoined S.told reading result }
 {
     let Reading { started, hearing } = reading;
     let Hearing { mut ear, kept: _ } = hearing;
@@ -119,7 +119,7 @@ fn join_all<S: Source + Drop, R: Threads>(
     requires empty { back.items ≡ [] }
     requires none { vec_len back ≡ 0 }
     requires room { length readings.items ≤ vec_capacity back }
-    ensures { Pairs (IsJoined S.left S.faults) readings.items result.items }
+    ensures { Pairs (IsJoined S.told) readings.items result.items }
 {
     for reading in readings {
         back.push_reserved(joined(rt, reading));
@@ -143,9 +143,9 @@ pub(crate) fn in_scope<W: Serves<S, R>, S: Source + Send + Drop, R: Threads + Wa
     requires few { length sources.items < 2 ^ 32 }
     ensures served { W.served held.old held.new }
     ensures many { length (W.back held.new) ≡ length sources.items }
-    ensures back { AreBack S.left S.faults sources.items (W.back held.new) (W.records held.new) }
+    ensures back { AreBack S.told sources.items (W.back held.new) (W.records held.new) }
     ensures broke { IfSome (W.broke held.new)
-        (HasBroken S.left S.faults sources.items (W.back held.new) (W.records held.new)) }
+        (HasBroken S.told sources.items (W.back held.new) (W.records held.new)) }
 {
     let bell = Bell::new();
     let bell = &bell;
@@ -160,10 +160,10 @@ pub(crate) fn in_scope<W: Serves<S, R>, S: Source + Send + Drop, R: Threads + Wa
             ensures same { result.ghost_name ≡ held.entry.ghost_name }
             ensures served { W.served held.entry.now result.now }
             ensures many { length (W.back result.now) ≡ length sources.items }
-            ensures back { AreBack S.left S.faults sources.items (W.back result.now)
+            ensures back { AreBack S.told sources.items (W.back result.now)
                 (W.records result.now) }
             ensures broke { IfSome (W.broke result.now)
-                (HasBroken S.left S.faults sources.items (W.back result.now) (W.records result.now)) }
+                (HasBroken S.told sources.items (W.back result.now) (W.records result.now)) }
         {
             let (mut readings, back) = start_all(rt, alloc, scope, bell, places, sources);
             held.serve(rt, bell, &mut readings);

@@ -126,7 +126,7 @@ impl<K: Sink, L: Sink, V: Shows> Service<'_, '_, K, L, V> {
         ensures rested { IfOk result (λ some. some ≡ false →
             list_any turns_here readings.new.items ≡ false) }
         ensures turns { OnOk result (MakeTurns readings.old.items readings.new.items) }
-        ensures goes_on { Pairs (GoesOnAs S.left S.faults) readings.old.items readings.new.items }
+        ensures goes_on { Pairs (GoesOnAs S.told) readings.old.items readings.new.items }
         ensures hearing { AreAsHeard readings.old.items readings.new.items }
         ensures untold { NothingUntold self.new.core self.new.telling }
         ensures same { self.new.core ≡ self.old.core }
@@ -196,7 +196,7 @@ impl<K: Sink, L: Sink, V: Shows> Service<'_, '_, K, L, V> {
         ensures inside { OnOk result (self.new.core.out ≡ self.old.core.out) }
         ensures stops { IfErr result
             (StopsServing (run_of self.old) (run_of self.new) readings.new.items) }
-        ensures hears { HearOn S.left S.faults self.new.core.arbiter.records readings.old.items
+        ensures hears { HearOn S.told self.new.core.arbiter.records readings.old.items
             readings.new.items }
         ensures unheard { IfOk result (λ heard. heard ≡ false →
             KeepsItems self.old.core.arbiter.records self.new.core.arbiter.records) }
@@ -266,7 +266,7 @@ impl<K: Sink, L: Sink, V: Shows> Service<'_, '_, K, L, V> {
         ensures written { OnOk result (WritesRun (run_of self.old) (run_of self.new)) }
         ensures stops { IfErr result
             (StopsServing (run_of self.old) (run_of self.new) readings.new.items) }
-        ensures hears { HearOn S.left S.faults self.new.core.arbiter.records readings.old.items
+        ensures hears { HearOn S.told self.new.core.arbiter.records readings.old.items
             readings.new.items }
         ensures writes { WritesTo self.old.outlets self.new.outlets (served_fault result) }
     {

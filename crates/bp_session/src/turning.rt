@@ -34,7 +34,7 @@ pub(crate) fn some_turn_here<S: Source>(readings: &Vec<Reading<S>>) -> bool
 
 /// Makes one turn of an injector, if it has no thread and is not over.
 fn turn_here<S: Source>(reading: &mut Reading<S>) -> Result<(), Memory>
-    ensures goes_on { GoesOnAs S.left S.faults reading.old reading.new }
+    ensures goes_on { GoesOnAs S.told reading.old reading.new }
     ensures hearing { reading.new.hearing ≡ reading.old.hearing }
     ensures turns { OnOk result (MakesTurn reading.old reading.new) }
 {
@@ -56,7 +56,7 @@ pub(crate) fn turn_all_here<S: Source>(
     written: Written<'_>,
 ) -> Result<(), Memory>
     requires waiting { IsWaiting written.core.now }
-    ensures goes_on { Pairs (GoesOnAs S.left S.faults) readings.old.items readings.new.items }
+    ensures goes_on { Pairs (GoesOnAs S.told) readings.old.items readings.new.items }
     ensures hearing { AreAsHeard readings.old.items readings.new.items }
     ensures turns { OnOk result (MakeTurns readings.old.items readings.new.items) }
 {

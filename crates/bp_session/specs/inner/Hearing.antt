@@ -1,6 +1,7 @@
 -- How injectors are heard, by a core and while a run is served.
 use Rattle.std.specs.Prelude.{◌≡◌, ◌⊎◌, ℕ, ◌<◌, false, nat_eq, List, [], ◌++◌, map, length, None, option_to_list, IsSomeAnd, slice_index_or, ◌+◌, ◌^◌, Option, Some}
 use Rattle.std.specs.List.{filter_map, list_any}
+use Rattle.bp_base.specs.Outside.{PlainSource}
 use Rattle.bp_log.specs.declared.item.Item.{Item}
 use Rattle.bp_log.specs.declared.item.Item.TheVariants as item
 use Rattle.bp_log.specs.declared.record.Record.{Record}
@@ -128,10 +129,10 @@ module _ {S : Type 0} where
         → (slice_index_or new k e).hearing ≡ (slice_index_or old k d).hearing
 
   -- each goes on as a reading does, and what was taken of it is recorded
-  pub record HearOn (left : S → Option (List ℕ)) (faults : S → ℕ) (records : List Record)
-      (old new : List (Reading S)) : Type 0 where
+  pub record HearOn (told : S → PlainSource) (records : List Record) (old new : List (Reading S))
+      : Type 0 where
     pub heard : AreHeard (λ (r : Reading S). r.hearing) records new
-    pub goes_on : Pairs (GoesOnAs left faults) old new
+    pub goes_on : Pairs (GoesOnAs told) old new
 
   -- Some run is served, its jobs are not out, and what was taken of its injectors, which are few
   -- enough for their numbers, is recorded.

@@ -16,7 +16,7 @@ loop-number-init g c =
       inside = refl;
       hears = hears_nothing c.args.core.now;
       heard = c.requires.heard;
-      goes_on = go_none g.S.Source.left g.S.Source.faults c.args.readings.now.items;
+      goes_on = go_none g.S.Source.told c.args.readings.now.items;
       each = each_none (WasHeard c.args.core.now c.args.core.now) c.args.readings.now.items;
       some = search rules;
     }
@@ -43,8 +43,8 @@ returns-in_err-hear_reading-clause-goes_on g c =
     let low = c.loop-number-test.true in
     let end = c.len-number-end.ensures in
     let less : c.loop-number.number < length c.loop-number.readings.items = omega (arith, many, low, end) in
-    go_one g.S.Source.left g.S.Source.faults c.args.readings.now.items c.loop-number.readings.items c.loop-number.number c.index_mut.result.now c.hear_reading.new.reading i.goes_on less
-    (subst (λ (r : Reading _). GoesOnAs g.S.Source.left g.S.Source.faults r c.hear_reading.new.reading) c.index_mut.ensures.value c.hear_reading.ensures.goes_on)
+    go_one g.S.Source.told c.args.readings.now.items c.loop-number.readings.items c.loop-number.number c.index_mut.result.now c.hear_reading.new.reading i.goes_on less
+    (subst (λ (r : Reading _). GoesOnAs g.S.Source.told r c.hear_reading.new.reading) c.index_mut.ensures.value c.hear_reading.ensures.goes_on)
 
 pub loop-number-preserved : goal.loop-number-preserved
 loop-number-preserved g c =
@@ -69,8 +69,8 @@ loop-number-preserved g c =
       hears = hears_both c.args.core.now c.loop-number.core c.hear_reading.new.core i.hears e.hears;
       heard = heard_at (λ (r : Reading _). r.hearing) c.loop-number.core.arbiter.records c.hear_reading.new.core.arbiter.records c.loop-number.readings.items c.loop-number.number c.hear_reading.new.reading less i.heard
           (one.one (subst (λ (r : Reading _). IsRecorded c.loop-number.number c.loop-number.core.arbiter.records r.hearing) (sym c.index_mut.ensures.value) (i.heard c.loop-number.number at less))) one.others;
-      goes_on = go_one g.S.Source.left g.S.Source.faults c.args.readings.now.items c.loop-number.readings.items c.loop-number.number at c.hear_reading.new.reading i.goes_on less
-          (subst (λ (r : Reading _). GoesOnAs g.S.Source.left g.S.Source.faults r c.hear_reading.new.reading) c.index_mut.ensures.value e.goes_on);
+      goes_on = go_one g.S.Source.told c.args.readings.now.items c.loop-number.readings.items c.loop-number.number at c.hear_reading.new.reading i.goes_on less
+          (subst (λ (r : Reading _). GoesOnAs g.S.Source.told r c.hear_reading.new.reading) c.index_mut.ensures.value e.goes_on);
       each = heard_next c.args.core.now c.loop-number.core c.hear_reading.new.core c.loop-number.number c.args.readings.now.items c.loop-number.readings.items at c.hear_reading.new.reading first i.hears e.hears i.each
           (subst (λ (r : Reading _). WasHeard c.loop-number.core c.hear_reading.new.core c.loop-number.number r c.hear_reading.new.reading) c.index_mut.ensures.value c.in_ok-hear_reading.ensures.was);
       some = elim c.if-branch.branch [

@@ -12,7 +12,7 @@ invariant-loop-number g l = record {
   inside : l.core.out ≡ l.fn.core.out;
   hears : HearsOn l.fn.core l.core;
   heard : AreHeard (λ r. r.hearing) l.core.arbiter.records l.readings.items;
-  goes_on : Pairs (GoesOnAs g.S.Source.left g.S.Source.faults) l.fn.readings.items l.readings.items;
+  goes_on : Pairs (GoesOnAs g.S.Source.told) l.fn.readings.items l.readings.items;
   each : EachTo (WasHeard l.fn.core l.core) l.number l.fn.readings.items l.readings.items;
   some : l.some ≡ nat_lt (length l.fn.core.arbiter.records) (length l.core.arbiter.records);
 }

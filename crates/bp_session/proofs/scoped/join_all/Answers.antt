@@ -12,7 +12,7 @@ loop-reading-init g c =
     let none = c.requires.none in
     let room = c.requires.room in
     record {
-      joined = subst (λ (bs : List _). Pairs (IsJoined g.S.Source.left g.S.Source.faults) [] bs) (sym c.requires.empty) tt;
+      joined = subst (λ (bs : List _). Pairs (IsJoined g.S.Source.told) [] bs) (sym c.requires.empty) tt;
       all = all;
       held = All-same IsHeld _ _ all c.requires.held;
       room = omega (arith, many, none, room);
@@ -28,8 +28,8 @@ loop-reading-preserved g c =
     let many = ap length step in
     let room = i.room in
     record {
-      joined = subst (λ (bs : List _). Pairs (IsJoined g.S.Source.left g.S.Source.faults) (c.loop-reading.yielded ++ c.in-Some.reading ∷ []) bs) (sym c.push_reserved.ensures.items)
-          (pairs_push (IsJoined g.S.Source.left g.S.Source.faults) c.loop-reading.yielded c.loop-reading.back.items c.in-Some.reading c.joined.result i.joined c.joined.ensures);
+      joined = subst (λ (bs : List _). Pairs (IsJoined g.S.Source.told) (c.loop-reading.yielded ++ c.in-Some.reading ∷ []) bs) (sym c.push_reserved.ensures.items)
+          (pairs_push (IsJoined g.S.Source.told) c.loop-reading.yielded c.loop-reading.back.items c.in-Some.reading c.joined.result i.joined c.joined.ensures);
       all = append_assoc c.loop-reading.yielded (c.in-Some.reading ∷ []) (into_iter_items c.next.new.self) ∙ ap (λ (xs : List _). c.loop-reading.yielded ++ xs) (sym step) ∙ i.all;
       held = All-rest IsHeld _ _ _ step i.held;
       room = search arith;

@@ -13,7 +13,7 @@ loop-source-init g c =
     let none = c.requires.none in
     let room = c.requires.readings in
     record {
-      started = subst (λ (rs : List (Reading _)). Pairs (IsStartedOf g.S.Source.left g.S.Source.faults) [] rs) (sym c.requires.unread) tt;
+      started = subst (λ (rs : List (Reading _)). Pairs (IsStartedOf g.S.Source.told) [] rs) (sym c.requires.unread) tt;
       all = all;
       berths = many ∙ sym berths;
       room = omega (arith, many, none, room);
@@ -28,8 +28,8 @@ loop-source-preserved g c =
     let room = i.room in
     let popped = c.pop.ensures.cases in
     record {
-      started = subst (λ (rs : List (Reading _)). Pairs (IsStartedOf g.S.Source.left g.S.Source.faults) (c.loop-source.yielded ++ c.in-Some.source ∷ []) rs) (sym c.push_reserved.ensures.items)
-          (pairs_push (IsStartedOf g.S.Source.left g.S.Source.faults) c.loop-source.yielded c.loop-source.readings.items c.in-Some.source c.started.result i.started c.started.ensures);
+      started = subst (λ (rs : List (Reading _)). Pairs (IsStartedOf g.S.Source.told) (c.loop-source.yielded ++ c.in-Some.source ∷ []) rs) (sym c.push_reserved.ensures.items)
+          (pairs_push (IsStartedOf g.S.Source.told) c.loop-source.yielded c.loop-source.readings.items c.in-Some.source c.started.result i.started c.started.ensures);
       all = append_assoc c.loop-source.yielded (c.in-Some.source ∷ []) (into_iter_items c.next.new.self) ∙ ap (λ (xs : List _). c.loop-source.yielded ++ xs) (sym step) ∙ i.all;
       berths = search arith;
       room = search arith;

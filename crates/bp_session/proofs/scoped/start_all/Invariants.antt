@@ -5,7 +5,7 @@ use Rattle.bp_session.proofs.scoped.start_all.Given as goal
 
 abbrev pub invariant-loop-source : goal.invariant-loop-source
 invariant-loop-source g l = record {
-  started : Pairs (IsStartedOf g.S.Source.left g.S.Source.faults) l.yielded l.readings.items;
+  started : Pairs (IsStartedOf g.S.Source.told) l.yielded l.readings.items;
   all : l.yielded ++ into_iter_items l.source-iterator ≡ l.fn.sources.items;
   berths : length (into_iter_items l.source-iterator) ≡ vec_len l.berths;
   room : vec_len l.readings + length (into_iter_items l.source-iterator) ≤ vec_capacity l.readings;

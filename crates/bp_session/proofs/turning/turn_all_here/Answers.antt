@@ -13,7 +13,7 @@ loop-reading-init g c =
     let value = sym c.deref_mut-reading-items.ensures.value in
     let old = c.args.readings.now.items in
     record {
-      goes_on = subst (λ (rs : List (Reading _)). Pairs (GoesOnAs g.S.Source.left g.S.Source.faults) old rs) value (go_none g.S.Source.left g.S.Source.faults old);
+      goes_on = subst (λ (rs : List (Reading _)). Pairs (GoesOnAs g.S.Source.told) old rs) value (go_none g.S.Source.told old);
       hearing = subst (λ (rs : List (Reading _)). AreAsHeard old rs) value (as_heard_none old);
       turned = subst (λ (rs : List (Reading _)). EachTo (λ k. MakesTurn) 0 old rs) value (each_none (λ k. MakesTurn) old);
     }
@@ -26,8 +26,8 @@ returns-in_err-turn_here-clause-goes_on g c =
     let old = c.args.readings.now.items in
     let new = set c.loop-reading.reading-items c.loop-reading.reading-index c.turn_here.new.reading in
     let back = sym (written_back c.args.readings.now.len old new (omega (arith, c.args.readings.now.ok.0)) (length-set c.loop-reading.reading-items c.loop-reading.reading-index c.turn_here.new.reading ∙ many)) in
-    subst (λ (rs : List (Reading _)). Pairs (GoesOnAs g.S.Source.left g.S.Source.faults) old rs) back
-    (go_one g.S.Source.left g.S.Source.faults old c.loop-reading.reading-items c.loop-reading.reading-index c.reading-item.result c.turn_here.new.reading i.goes_on (omega (arith, low, many)) c.turn_here.ensures.goes_on)
+    subst (λ (rs : List (Reading _)). Pairs (GoesOnAs g.S.Source.told) old rs) back
+    (go_one g.S.Source.told old c.loop-reading.reading-items c.loop-reading.reading-index c.reading-item.result c.turn_here.new.reading i.goes_on (omega (arith, low, many)) c.turn_here.ensures.goes_on)
 
 pub returns-in_err-turn_here-clause-hearing : goal.returns-in_err-turn_here-clause-hearing
 returns-in_err-turn_here-clause-hearing g c =
@@ -47,7 +47,7 @@ loop-reading-preserved g c =
     let many = (i.turned).many in
     let less : c.loop-reading.reading-index < length c.loop-reading.reading-items = omega (arith, low, many) in
     record {
-      goes_on = go_one g.S.Source.left g.S.Source.faults c.args.readings.now.items c.loop-reading.reading-items c.loop-reading.reading-index c.reading-item.result c.turn_here.new.reading i.goes_on less c.turn_here.ensures.goes_on;
+      goes_on = go_one g.S.Source.told c.args.readings.now.items c.loop-reading.reading-items c.loop-reading.reading-index c.reading-item.result c.turn_here.new.reading i.goes_on less c.turn_here.ensures.goes_on;
       hearing = as_heard_one c.args.readings.now.items c.loop-reading.reading-items c.loop-reading.reading-index c.reading-item.result c.turn_here.new.reading less i.hearing c.turn_here.ensures.hearing;
       turned = each_next (λ k. MakesTurn) c.loop-reading.reading-index c.args.readings.now.items c.loop-reading.reading-items c.reading-item.result c.turn_here.new.reading low i.turned c.in_ok-turn_here.ensures.turns;
     }

@@ -6,7 +6,7 @@ use Rattle.bp_session.proofs.turning.turn_all_here.Given as goal
 
 abbrev pub invariant-loop-reading : goal.invariant-loop-reading
 invariant-loop-reading g l = record {
-  goes_on : Pairs (GoesOnAs g.S.Source.left g.S.Source.faults) l.fn.readings.items l.reading-items;
+  goes_on : Pairs (GoesOnAs g.S.Source.told) l.fn.readings.items l.reading-items;
   hearing : AreAsHeard l.fn.readings.items l.reading-items;
   turned : EachTo (λ k. MakesTurn) l.reading-index l.fn.readings.items l.reading-items;
 }

@@ -5,13 +5,13 @@ use Rattle.bp_session.proofs.Turns.{as_started, feed_goes, one_turned, turn_made
 use Rattle.bp_session.proofs.turning.turn_here.Goals as goal
 
 pub returns-then-is_over-clause-goes_on : goal.returns-then-is_over-clause-goes_on
-returns-then-is_over-clause-goes_on g c = as_started g.S.Source.left g.S.Source.faults c.args.reading.now (started.Alone c.in-Alone.feed) c.in-Alone.is
+returns-then-is_over-clause-goes_on g c = as_started g.S.Source.told c.args.reading.now (started.Alone c.in-Alone.feed) c.in-Alone.is
 
 pub returns-in_err-_fed-in-Alone-clause-goes_on : goal.returns-in_err-_fed-in-Alone-clause-goes_on
-returns-in_err-_fed-in-Alone-clause-goes_on g c = feed_goes g.S.Source.left g.S.Source.faults c.args.reading.now _ c.in-Alone.feed c.turn.new.self c.in-Alone.is refl refl c.turn.ensures.goes_on
+returns-in_err-_fed-in-Alone-clause-goes_on g c = feed_goes g.S.Source.told c.args.reading.now _ c.in-Alone.feed c.turn.new.self c.in-Alone.is refl refl c.turn.ensures.goes_on
 
 pub returns-in_ok-_fed-in-Alone-clause-goes_on : goal.returns-in_ok-_fed-in-Alone-clause-goes_on
-returns-in_ok-_fed-in-Alone-clause-goes_on g c = feed_goes g.S.Source.left g.S.Source.faults c.args.reading.now _ c.in-Alone.feed c.turn.new.self c.in-Alone.is refl refl c.turn.ensures.goes_on
+returns-in_ok-_fed-in-Alone-clause-goes_on g c = feed_goes g.S.Source.told c.args.reading.now _ c.in-Alone.feed c.turn.new.self c.in-Alone.is refl refl c.turn.ensures.goes_on
 
 pub returns-in_ok-_fed-in-Alone-clause-turns : goal.returns-in_ok-_fed-in-Alone-clause-turns
 returns-in_ok-_fed-in-Alone-clause-turns g c =

@@ -57,7 +57,7 @@ pub turn_here-requires-clause-heard : goal.turn_here-requires-clause-heard
 turn_here-requires-clause-heard g c κs o =
     let still = none_heard c.hear_all.ensures.hears c.in_ok-heard.ensures.some (search rules) in
     all_out c.args.self.now.core c.hear_all.new.core c.pick.new.core c.args.readings.now.items c.hear_all.new.readings.items (somewhere_ready c.requires.can.ready) still (c.in_ok-picked.ensures.stays (search rules))
-    (pairs_many (GoesOnAs g.S.Source.left g.S.Source.faults) c.args.readings.now.items c.hear_all.new.readings.items c.hear_all.ensures.goes_on) c.in_ok-heard.ensures.were
+    (pairs_many (GoesOnAs g.S.Source.told) c.args.readings.now.items c.hear_all.new.readings.items c.hear_all.ensures.goes_on) c.in_ok-heard.ensures.were
 
 pub turn_here-requires-clause-untold : goal.turn_here-requires-clause-untold
 turn_here-requires-clause-untold g c κs o =
@@ -111,7 +111,7 @@ pub returns-in_err-ask_halt-clause-hears : goal.returns-in_err-ask_halt-clause-h
 returns-in_err-ask_halt-clause-hears g c =
     record {
       heard = c.requires.can.heard;
-      goes_on = go_none g.S.Source.left g.S.Source.faults c.args.readings.now.items;
+      goes_on = go_none g.S.Source.told c.args.readings.now.items;
     }
 
 pub returns-in_err-heard-clause-hears : goal.returns-in_err-heard-clause-hears
@@ -137,29 +137,29 @@ returns-then-heard-clause-hears g c =
 
 pub returns-in_err-turned-clause-hears : goal.returns-in_err-turned-clause-hears
 returns-in_err-turned-clause-hears g c =
-    subst (λ (d : Core). HearOn g.S.Source.left g.S.Source.faults d.arbiter.records c.args.readings.now.items c.turn_here.new.readings.items) (sym c.turn_here.ensures.same)
+    subst (λ (d : Core). HearOn g.S.Source.told d.arbiter.records c.args.readings.now.items c.turn_here.new.readings.items) (sym c.turn_here.ensures.same)
     (record {
       heard = picked_heard c.pick.new.core c.turn_here.new.readings.items c.requires.can.ready c.hear_all.ensures.hears c.pick.ensures.items
           (heard_still c.hear_all.new.core.arbiter.records c.hear_all.new.readings.items c.turn_here.new.readings.items c.turn_here.ensures.hearing c.hear_all.ensures.heard);
-      goes_on = go_both g.S.Source.left g.S.Source.faults c.args.readings.now.items c.hear_all.new.readings.items c.turn_here.new.readings.items c.hear_all.ensures.goes_on c.turn_here.ensures.goes_on;
+      goes_on = go_both g.S.Source.told c.args.readings.now.items c.hear_all.new.readings.items c.turn_here.new.readings.items c.hear_all.ensures.goes_on c.turn_here.ensures.goes_on;
     })
 
 pub returns-in_err-wait_where-clause-hears : goal.returns-in_err-wait_where-clause-hears
 returns-in_err-wait_where-clause-hears g c =
-    subst (λ (d : Core). HearOn g.S.Source.left g.S.Source.faults d.arbiter.records c.args.readings.now.items c.turn_here.new.readings.items) (sym (c.wait_where.ensures.same ∙ c.turn_here.ensures.same))
+    subst (λ (d : Core). HearOn g.S.Source.told d.arbiter.records c.args.readings.now.items c.turn_here.new.readings.items) (sym (c.wait_where.ensures.same ∙ c.turn_here.ensures.same))
     (record {
       heard = picked_heard c.pick.new.core c.turn_here.new.readings.items c.requires.can.ready c.hear_all.ensures.hears c.pick.ensures.items
           (heard_still c.hear_all.new.core.arbiter.records c.hear_all.new.readings.items c.turn_here.new.readings.items c.turn_here.ensures.hearing c.hear_all.ensures.heard);
-      goes_on = go_both g.S.Source.left g.S.Source.faults c.args.readings.now.items c.hear_all.new.readings.items c.turn_here.new.readings.items c.hear_all.ensures.goes_on c.turn_here.ensures.goes_on;
+      goes_on = go_both g.S.Source.told c.args.readings.now.items c.hear_all.new.readings.items c.turn_here.new.readings.items c.hear_all.ensures.goes_on c.turn_here.ensures.goes_on;
     })
 
 pub returns-clause-hears : goal.returns-clause-hears
 returns-clause-hears g c =
-    subst (λ (d : Core). HearOn g.S.Source.left g.S.Source.faults d.arbiter.records c.args.readings.now.items c.turn_here.new.readings.items) (sym (c.wait_where.ensures.same ∙ c.turn_here.ensures.same))
+    subst (λ (d : Core). HearOn g.S.Source.told d.arbiter.records c.args.readings.now.items c.turn_here.new.readings.items) (sym (c.wait_where.ensures.same ∙ c.turn_here.ensures.same))
     (record {
       heard = picked_heard c.pick.new.core c.turn_here.new.readings.items c.requires.can.ready c.hear_all.ensures.hears c.pick.ensures.items
           (heard_still c.hear_all.new.core.arbiter.records c.hear_all.new.readings.items c.turn_here.new.readings.items c.turn_here.ensures.hearing c.hear_all.ensures.heard);
-      goes_on = go_both g.S.Source.left g.S.Source.faults c.args.readings.now.items c.hear_all.new.readings.items c.turn_here.new.readings.items c.hear_all.ensures.goes_on c.turn_here.ensures.goes_on;
+      goes_on = go_both g.S.Source.told c.args.readings.now.items c.hear_all.new.readings.items c.turn_here.new.readings.items c.hear_all.ensures.goes_on c.turn_here.ensures.goes_on;
     })
 
 -- if nothing was heard, nothing of an injector is recorded
@@ -185,4 +185,4 @@ wait_where-requires-clause-heard g c κs o =
     subst (λ (d : Core). AreHeardOut d c.turn_here.new.readings.items) (sym c.turn_here.ensures.same)
     (out_still c.pick.new.core c.hear_all.new.readings.items c.turn_here.new.readings.items c.turn_here.ensures.hearing
     (all_out c.args.self.now.core c.hear_all.new.core c.pick.new.core c.args.readings.now.items c.hear_all.new.readings.items (somewhere_ready c.requires.can.ready) still (c.in_ok-picked.ensures.stays (search rules))
-    (pairs_many (GoesOnAs g.S.Source.left g.S.Source.faults) c.args.readings.now.items c.hear_all.new.readings.items c.hear_all.ensures.goes_on) c.in_ok-heard.ensures.were))
+    (pairs_many (GoesOnAs g.S.Source.told) c.args.readings.now.items c.hear_all.new.readings.items c.hear_all.ensures.goes_on) c.in_ok-heard.ensures.were))

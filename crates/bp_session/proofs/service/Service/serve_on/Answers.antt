@@ -25,8 +25,8 @@ returns-in_err-write-clause-writes g c = stops_at _ _ c.from_residual.ensures.1 
 
 pub returns-in_err-write-clause-hears : goal.returns-in_err-write-clause-hears
 returns-in_err-write-clause-hears g c =
-    subst (λ (d : Core). HearOn g.S.Source.left g.S.Source.faults d.arbiter.records c.args.readings.now.items c.args.readings.now.items) (sym c.write.ensures.same)
-    (record { heard = c.requires.can.heard; goes_on = go_none g.S.Source.left g.S.Source.faults c.args.readings.now.items })
+    subst (λ (d : Core). HearOn g.S.Source.told d.arbiter.records c.args.readings.now.items c.args.readings.now.items) (sym c.write.ensures.same)
+    (record { heard = c.requires.can.heard; goes_on = go_none g.S.Source.told c.args.readings.now.items })
 
 pub loop-init : goal.loop-init
 loop-init g c =
@@ -35,8 +35,8 @@ loop-init g c =
     record {
       serves = serves_still first first wrote c.write.ensures.same (serves_none first) (write_still first wrote c.in_ok-write.ensures.all);
       inside = ap (λ (d : Core). d.out) c.write.ensures.same ∙ c.requires.can.inside;
-      hears = subst (λ (d : Core). HearOn g.S.Source.left g.S.Source.faults d.arbiter.records c.args.readings.now.items c.args.readings.now.items) (sym c.write.ensures.same)
-          (record { heard = c.requires.can.heard; goes_on = go_none g.S.Source.left g.S.Source.faults c.args.readings.now.items });
+      hears = subst (λ (d : Core). HearOn g.S.Source.told d.arbiter.records c.args.readings.now.items c.args.readings.now.items) (sym c.write.ensures.same)
+          (record { heard = c.requires.can.heard; goes_on = go_none g.S.Source.told c.args.readings.now.items });
       writes = c.in_ok-write.ensures.writes;
     }
 
@@ -100,7 +100,7 @@ pub round-requires-clause-can : goal.round-requires-clause-can
 round-requires-clause-can g c κs o =
     let served = serves_both c.loop.invariant.serves c.in_ok-settle_and_tell.ensures.serves in
     let still = serves_still (run_of c.args.self.now) (run_of c.settle_and_tell.new.self) (run_of c.write_where.new.self) c.write_where.ensures.same served c.in_ok-write_where.ensures.told.still in
-    let many = pairs_many (GoesOnAs g.S.Source.left g.S.Source.faults) c.args.readings.now.items c.loop.readings.items c.loop.invariant.hears.goes_on in
+    let many = pairs_many (GoesOnAs g.S.Source.told) c.args.readings.now.items c.loop.readings.items c.loop.invariant.hears.goes_on in
     let few = c.requires.can.few in
     record {
       ready = ready_on still c.requires.can.ready;
@@ -133,7 +133,7 @@ loop-preserved g c =
       inside = c.in_ok-heard.ensures.inside ∙ ap (λ (d : Core). d.out) c.write_where.ensures.same ∙ c.in_ok-settle_and_tell.ensures.inside;
       hears = record {
         heard = c.round.ensures.hears.heard;
-        goes_on = go_both g.S.Source.left g.S.Source.faults c.args.readings.now.items c.loop.readings.items c.round.new.readings.items c.loop.invariant.hears.goes_on c.round.ensures.hears.goes_on;
+        goes_on = go_both g.S.Source.told c.args.readings.now.items c.loop.readings.items c.round.new.readings.items c.loop.invariant.hears.goes_on c.round.ensures.hears.goes_on;
       };
       writes = writes_on (writes_on (writes_on c.loop.invariant.writes c.in_ok-settle_and_tell.ensures.writes) c.in_ok-write_where.ensures.writes) c.in_ok-heard.ensures.writes;
     }
@@ -147,7 +147,7 @@ returns-in_err-settle_and_tell-clause-hears g c =
 
 pub returns-then-phase-eq3-clause-hears : goal.returns-then-phase-eq3-clause-hears
 returns-then-phase-eq3-clause-hears g c =
-    subst (λ (d : Core). HearOn g.S.Source.left g.S.Source.faults d.arbiter.records c.args.readings.now.items c.loop.readings.items) (sym c.verdict_shown.ensures.same)
+    subst (λ (d : Core). HearOn g.S.Source.told d.arbiter.records c.args.readings.now.items c.loop.readings.items) (sym c.verdict_shown.ensures.same)
     (record {
       heard = heard_kept c.loop.self.core.arbiter.records c.settle_and_tell.new.self.core.arbiter.records c.loop.readings.items c.settle_and_tell.ensures.items c.loop.invariant.hears.heard;
       goes_on = c.loop.invariant.hears.goes_on;
@@ -155,7 +155,7 @@ returns-then-phase-eq3-clause-hears g c =
 
 pub returns-in_err-write_where-clause-hears : goal.returns-in_err-write_where-clause-hears
 returns-in_err-write_where-clause-hears g c =
-    subst (λ (d : Core). HearOn g.S.Source.left g.S.Source.faults d.arbiter.records c.args.readings.now.items c.loop.readings.items) (sym c.write_where.ensures.same)
+    subst (λ (d : Core). HearOn g.S.Source.told d.arbiter.records c.args.readings.now.items c.loop.readings.items) (sym c.write_where.ensures.same)
     (record {
       heard = heard_kept c.loop.self.core.arbiter.records c.settle_and_tell.new.self.core.arbiter.records c.loop.readings.items c.settle_and_tell.ensures.items c.loop.invariant.hears.heard;
       goes_on = c.loop.invariant.hears.goes_on;
@@ -165,5 +165,5 @@ pub returns-in_err-heard-clause-hears : goal.returns-in_err-heard-clause-hears
 returns-in_err-heard-clause-hears g c =
     record {
       heard = c.round.ensures.hears.heard;
-      goes_on = go_both g.S.Source.left g.S.Source.faults c.args.readings.now.items c.loop.readings.items c.round.new.readings.items c.loop.invariant.hears.goes_on c.round.ensures.hears.goes_on;
+      goes_on = go_both g.S.Source.told c.args.readings.now.items c.loop.readings.items c.round.new.readings.items c.loop.invariant.hears.goes_on c.round.ensures.hears.goes_on;
     }

@@ -9,6 +9,6 @@ abbrev pub invariant-loop : goal.invariant-loop
 invariant-loop g l = record {
   serves : ServesOn (run_of l.fn.self) (run_of l.self);
   inside : l.self.core.out ≡ false;
-  hears : HearOn g.S.Source.left g.S.Source.faults l.self.core.arbiter.records l.fn.readings.items l.readings.items;
+  hears : HearOn g.S.Source.told l.self.core.arbiter.records l.fn.readings.items l.readings.items;
   writes : WritesTo l.fn.self.outlets l.self.outlets None;
 }

@@ -21,7 +21,7 @@ returns-then-not-some_turn_here-clause-turns g c =
 
 pub returns-then-not-some_turn_here-clause-goes_on : goal.returns-then-not-some_turn_here-clause-goes_on
 returns-then-not-some_turn_here-clause-goes_on g c =
-    go_none g.S.Source.left g.S.Source.faults c.args.readings.now.items
+    go_none g.S.Source.told c.args.readings.now.items
 
 pub returns-then-not-some_turn_here-clause-hearing : goal.returns-then-not-some_turn_here-clause-hearing
 returns-then-not-some_turn_here-clause-hearing g c =
@@ -39,7 +39,7 @@ returns-in_err-write_and_show-clause-writes g c =
 
 pub returns-in_err-write_and_show-clause-goes_on : goal.returns-in_err-write_and_show-clause-goes_on
 returns-in_err-write_and_show-clause-goes_on g c =
-    go_none g.S.Source.left g.S.Source.faults c.args.readings.now.items
+    go_none g.S.Source.told c.args.readings.now.items
 
 pub returns-in_err-write_and_show-clause-hearing : goal.returns-in_err-write_and_show-clause-hearing
 returns-in_err-write_and_show-clause-hearing g c =

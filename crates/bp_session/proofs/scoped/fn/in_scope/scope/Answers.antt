@@ -15,9 +15,9 @@ serve-requires g c =
     record {
       ready = c.requires.ready;
       fresh = c.requires.fresh;
-      few = subst (λ (n : ℕ). n < 2 ^ 32) (sym (pairs_many (IsStartedOf left faults) sources start s)) c.requires.few;
-      heard = started_heard left faults sources start s (g.W.Serves.records c.captures.held.now) c.requires.fresh;
-      held = started_held left faults sources start s;
+      few = subst (λ (n : ℕ). n < 2 ^ 32) (sym (pairs_many (IsStartedOf told) sources start s)) c.requires.few;
+      heard = started_heard told sources start s (g.W.Serves.records c.captures.held.now) c.requires.fresh;
+      held = started_held told sources start s;
     }
 
 pub join_all-requires : goal.join_all-requires
@@ -29,11 +29,11 @@ join_all-requires g c =
     let readings = c.serve.new.readings.items in
     let s = c.start_all-readings.ensures.started in
     let on = c.serve.ensures.goes_on in
-    let many = pairs_many (GoesOnAs left faults) start readings on ∙ pairs_many (IsStartedOf left faults) sources start s in
+    let many = pairs_many (GoesOnAs told) start readings on ∙ pairs_many (IsStartedOf told) sources start s in
     let room = c.requires.room.back in
     let kept = c.start_all-readings.ensures.back in
     record {
-      held = held_on left faults start readings on (started_held left faults sources start s);
+      held = held_on told start readings on (started_held told sources start s);
       empty = ap (λ (v : Vec _ _). v.items) kept ∙ c.requires.room.empty;
       none = ap (λ (v : Vec _ _). vec_len v) kept ∙ c.requires.room.nothing;
       room = let same = ap (λ (v : Vec _ _). vec_capacity v) kept in omega (arith, many, room, same);
@@ -58,11 +58,11 @@ returns g c =
     record {
       same = refl;
       served = w.served c.captures.held.now c.serve.ensures.served;
-      many = ap length w.back ∙ back_many left faults sources start readings back records s on j heard;
-      back = subst (λ (rs : List Record). AreBack left faults sources (g.W.Serves.back last) rs) (sym w.records)
-          (subst (λ (bs : List _). AreBack left faults sources bs records) (sym w.back) (are_back left faults sources start readings back records s on j heard));
-      broke = subst (λ (b : Option ℕ). IfSome b (HasBroken left faults sources (g.W.Serves.back last) (g.W.Serves.records last))) (sym w.broke)
-          (subst (λ (rs : List Record). IfSome (g.W.Serves.broke served) (HasBroken left faults sources (g.W.Serves.back last) rs)) (sym w.records)
-          (subst (λ (bs : List _). IfSome (g.W.Serves.broke served) (HasBroken left faults sources bs records)) (sym w.back)
-          (broken_if left faults sources start readings back records s on j heard (g.W.Serves.broke served) c.serve.ensures.broke)));
+      many = ap length w.back ∙ back_many told sources start readings back records s on j heard;
+      back = subst (λ (rs : List Record). AreBack told sources (g.W.Serves.back last) rs) (sym w.records)
+          (subst (λ (bs : List _). AreBack told sources bs records) (sym w.back) (are_back told sources start readings back records s on j heard));
+      broke = subst (λ (b : Option ℕ). IfSome b (HasBroken told sources (g.W.Serves.back last) (g.W.Serves.records last))) (sym w.broke)
+          (subst (λ (rs : List Record). IfSome (g.W.Serves.broke served) (HasBroken told sources (g.W.Serves.back last) rs)) (sym w.records)
+          (subst (λ (bs : List _). IfSome (g.W.Serves.broke served) (HasBroken told sources bs records)) (sym w.back)
+          (broken_if told sources start readings back records s on j heard (g.W.Serves.broke served) c.serve.ensures.broke)));
     }
