@@ -126,7 +126,7 @@ fn told(word: &str) -> Option<&'static str>
 
 /// Writes what stands here for a method that is not there.
 #[tactic(auto, unfolding(crate::specs::Sentences::hint))]
-pub(crate) fn write_hint(alloc: Global, word: &str, text: &mut String) -> Result<(), Memory>
+pub fn write_hint(alloc: Global, word: &str, text: &mut String) -> Result<(), Memory>
     ensures { OnOk result (string_bytes text.new ≡ string_bytes text.old ++ hint word.now) }
 {
     if let Some(hint) = told(word) {

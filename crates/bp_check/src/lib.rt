@@ -10,4 +10,6 @@ mod sentences;
 mod syncs;
 mod tops;
 
+pub use hint::write_hint;
+pub use methods::is_method;
 pub use nodes::check;

@@ -16,7 +16,7 @@ use std::alloc::Global;
 use std::sync::Arc;
 
 /// Whether a word names a method.
-fn is_method(word: &str) -> bool
+pub fn is_method(word: &str) -> bool
     ensures { result ≡ is_method word.now }
 {
     word == "forEach" || method_named(word).is_some()

@@ -1,0 +1,7 @@
+pub mod Mending
+pub mod Looks
+pub mod Mistakes
+pub mod Instead
+pub mod Sentences
+pub mod Slips
+pub mod inner

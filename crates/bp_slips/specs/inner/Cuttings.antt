@@ -1,0 +1,18 @@
+-- What cutting a text finds.
+use Rattle.std.specs.Prelude.{ℕ, ◌≤◌, List, length}
+use Rattle.std.specs.Str.{IsUtf8}
+use Rattle.js_lexer.specs.Cut.{Cut, Refused}
+use Rattle.bp_slips.specs.declared.mending.Cutting.{Cutting}
+use Rattle.bp_slips.specs.declared.mending.Cutting.TheVariants.{Whole, Flawed, NoText}
+
+-- its tokens, the first place that is none, or that it is no text
+abbrev pub IsCutting : List ℕ → Cutting → Type 0
+IsCutting bytes (Whole tokens) = IsUtf8 bytes × Cut bytes tokens
+IsCutting bytes (Flawed wrong) = IsUtf8 bytes × Refused bytes wrong.flaw wrong.place
+IsCutting bytes NoText = ¬ (IsUtf8 bytes)
+
+-- what is wrong stands in the text, or at its end
+abbrev pub FitsIn : List ℕ → Cutting → Type 0
+FitsIn bytes (Whole tokens) = Unit {0}
+FitsIn bytes (Flawed wrong) = wrong.place ≤ length bytes
+FitsIn bytes NoText = Unit {0}
