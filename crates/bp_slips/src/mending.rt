@@ -1,9 +1,9 @@
 //! What is wrong in a text gives way to spaces, until the text is cut into tokens.
-ghost use Rattle.std.specs.Prelude.{◌≡◌, ◌≤◌, ◌+◌, ◌++◌, IfOk, OnOk, length, map, drop, false};
+ghost use Rattle.std.specs.Prelude.{◌≡◌, ◌≤◌, ◌+◌, ◌++◌, IfOk, OnOk, length, map, take, drop, false};
 ghost use Rattle.js_lexer.specs.declared.limits.TheConstants.{MOST_BYTES};
 ghost use Rattle.js_lexer.specs.Literals.{is_break};
 ghost use Rattle.bp_slips.specs.Mending.{is_run_byte, run_size, word_size, rest_size, template_size, open_size, unsupported_size, wrong_size, blank, blanked, without, Mends};
-ghost use Rattle.bp_slips.specs.inner.Cuttings.{IsCutting, FitsIn};
+ghost use Rattle.bp_slips.specs.inner.Cuttings.{IsCutting};
 
 use js_data::Memory;
 use js_lexer::{Flaw, LexFault, Token, lex};
@@ -46,8 +46,7 @@ fn flawed(flaw: Flaw, place: u32) -> Cutting
 /// What cutting the bytes finds.
 fn cut(alloc: Global, bytes: &[u8]) -> Result<Cutting, Memory>
     requires { length bytes.now ≤ MOST_BYTES }
-    ensures cutting { IfOk result (IsCutting bytes.now) }
-    ensures within { IfOk result (FitsIn bytes.now) }
+    ensures { IfOk result (IsCutting bytes.now) }
 {
     match lex(alloc, bytes) {
         Ok(tokens) => Ok(Cutting::Whole(tokens)),
@@ -127,8 +126,7 @@ fn template_front(bytes: &[u8]) -> usize
 }
 
 fn word_front(bytes: &[u8]) -> usize
-    ensures size { result ≡ word_size bytes.now }
-    ensures within { result ≤ length bytes.now }
+    ensures { result ≡ word_size bytes.now }
 {
     match bytes {
         [] => 0,
@@ -137,8 +135,7 @@ fn word_front(bytes: &[u8]) -> usize
 }
 
 fn open_front(bytes: &[u8]) -> usize
-    ensures size { result ≡ open_size bytes.now }
-    ensures within { result ≤ length bytes.now }
+    ensures { result ≡ open_size bytes.now }
 {
     if bytes.starts_with(b"/*") {
         bytes.len()
@@ -148,8 +145,7 @@ fn open_front(bytes: &[u8]) -> usize
 }
 
 fn unsupported_front(bytes: &[u8]) -> usize
-    ensures size { result ≡ unsupported_size bytes.now }
-    ensures within { result ≤ length bytes.now }
+    ensures { result ≡ unsupported_size bytes.now }
 {
     match bytes {
         [] => 0,
@@ -160,8 +156,7 @@ fn unsupported_front(bytes: &[u8]) -> usize
 
 /// How many of the bytes, with the first, are what is wrong there.
 fn wrong_front(flaw: Flaw, bytes: &[u8]) -> usize
-    ensures size { result ≡ wrong_size flaw bytes.now }
-    ensures within { result ≤ length bytes.now }
+    ensures { result ≡ wrong_size flaw bytes.now }
 {
     match flaw {
         Flaw::Character | Flaw::NumberRange => word_front(bytes),
@@ -187,30 +182,46 @@ fn push_blanks(bytes: &[u8], text: &mut Vec<u8>) -> Result<(), Memory>
     Ok(())
 }
 
+/// The bytes before the place.
+fn front_of(bytes: &[u8], place: usize) -> &[u8]
+    ensures { result.now ≡ take place bytes.now }
+{
+    if place < bytes.len() {
+        &bytes[..place]
+    } else {
+        bytes
+    }
+}
+
+/// The bytes from the place on.
+pub(crate) fn rest_of(bytes: &[u8], place: usize) -> &[u8]
+    ensures { result.now ≡ drop place bytes.now }
+{
+    if place < bytes.len() {
+        &bytes[place..]
+    } else {
+        &[]
+    }
+}
+
 /// The bytes with spaces for so many from the place on.
 fn blanked(alloc: Global, bytes: &[u8], place: usize, size: usize) -> Result<Vec<u8>, Memory>
-    requires place { place ≤ length bytes.now }
-    requires size { size ≤ length (drop place bytes.now) }
-    ensures bytes { IfOk result (λ v. v.items ≡ blanked bytes.now place size) }
-    ensures many { IfOk result (λ v. length v.items ≡ length bytes.now) }
+    ensures { IfOk result (λ v. v.items ≡ blanked bytes.now place size) }
 {
-    let (before, rest) = bytes.split_at(place);
-    let (wrong, behind) = rest.split_at(size);
+    let rest = rest_of(bytes, place);
     let mut text = Vec::new(alloc);
-    text.extend_from_slice(before)?;
-    push_blanks(wrong, &mut text)?;
-    text.extend_from_slice(behind)?;
+    text.extend_from_slice(front_of(bytes, place))?;
+    push_blanks(front_of(rest, size), &mut text)?;
+    text.extend_from_slice(rest_of(rest, size))?;
     Ok(text)
 }
 
 /// The bytes without what is wrong in them.
 fn without(alloc: Global, bytes: &[u8], wrong: Wrong) -> Result<Vec<u8>, Memory>
-    requires { wrong.place ≤ length bytes.now }
-    ensures bytes { IfOk result (λ v. v.items ≡ without wrong bytes.now) }
-    ensures many { IfOk result (λ v. length v.items ≡ length bytes.now) }
+    ensures { IfOk result (λ v. v.items ≡ without wrong bytes.now) }
 {
     let place = wrong.place as usize;
-    let size = wrong_front(wrong.flaw, &bytes[place..]);
+    let size = wrong_front(wrong.flaw, rest_of(bytes, place));
     blanked(alloc, bytes, place, size)
 }
 

@@ -2,7 +2,7 @@
 ghost use Rattle.std.specs.Prelude.{◌≡◌, ◌+◌, ◌∷◌, [], ◌&&◌, ◌||◌, not, is_some, ℕ, List, slice_get, codes};
 ghost use Rattle.std.specs.Str.{bytes_eq};
 ghost use Rattle.std.specs.HashSet.{contains_text};
-ghost use Rattle.bp_slips.specs.Looks.{is_among as stands_among};
+ghost use Rattle.bp_slips.specs.Looks.{is_among};
 ghost use Rattle.bp_slips.specs.Mistakes.{declarers, openers, assignments, is_field_word, is_unsupported, is_assigned, is_taken_apart, is_named, is_pattern, object_of, is_called, is_no_form_of, is_no_form, known_names, is_given, is_unknown, is_unknown_before, is_no_method, mistake_at};
 
 use crate::looks::{before, behind, here, is_among, is_name, is_refused};
@@ -33,23 +33,25 @@ pub(crate) enum Mistake {
 }
 
 fn declares(word: &str) -> bool
-    ensures { result ≡ stands_among declarers word.now }
+    ensures { result ≡ is_among declarers word.now }
 {
     is_among(&["const", "let", "var"], word)
 }
 
 /// Whether a value begins behind this word.
 fn opens(word: &str) -> bool
-    ensures { result ≡ stands_among openers word.now }
+    ensures { result ≡ is_among openers word.now }
 {
     is_among(
-        &["=", "(", ",", ":", "[", "?", "!", "&&", "||", "=>", "return"],
+        &[
+            "=", "(", ",", ":", "[", "?", "!", "&&", "||", "=>", "return",
+        ],
         word,
     )
 }
 
 fn assigns(word: &str) -> bool
-    ensures { result ≡ stands_among assignments word.now }
+    ensures { result ≡ is_among assignments word.now }
 {
     is_among(&["=", "+=", "-=", "*=", "/=", "%=", "++", "--"], word)
 }

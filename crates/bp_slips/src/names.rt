@@ -1,6 +1,7 @@
 //! The names that a text gives.
-ghost use Rattle.std.specs.Prelude.{◌≡◌, ◌≤◌, ◌<◌, ◌++◌, ◌∷◌, IfOk, OnOk, ℕ, List, length, map, slice_get};
+ghost use Rattle.std.specs.Prelude.{◌≡◌, ◌∷◌, [], ◌&&◌, IfOk, ℕ, List, codes};
 ghost use Rattle.std.specs.HashSet.{contains_text};
+ghost use Rattle.bp_slips.specs.Looks.{is_among};
 ghost use Rattle.bp_slips.specs.Mistakes.{declarers, name_openers, name_closers, gives, is_given};
 
 use crate::looks::{before, behind, here, is_among};
@@ -30,7 +31,8 @@ fn is_behind_name(word: &str) -> bool
 fn is_parameter(opener: &str, closer: &str) -> bool
     ensures { result ≡ (is_among name_openers opener.now && is_among name_closers closer.now) }
 {
-    is_among(&["(", ",", "{", "[", "..."], opener) && is_among(&[",", ")", "=", "}", "]", ";"], closer)
+    is_among(&["(", ",", "{", "[", "..."], opener)
+        && is_among(&[",", ")", "=", "}", "]", ";"], closer)
 }
 
 /// Whether the text gives what the token of this number is.

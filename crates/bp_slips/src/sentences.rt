@@ -113,9 +113,7 @@ pub(crate) fn mistake_words(
         Mistake::Assigned => {
             "an element or a field is not assigned: put(l, i, v) of lib/prelude.js, and new fields"
         }
-        Mistake::TakenApart => {
-            "names are taken one by one: const x = p.x, and const a = l[0]"
-        }
+        Mistake::TakenApart => { "names are taken one by one: const x = p.x, and const a = l[0]" }
         Mistake::Named => "a function that is a value has no name: const f = () => {..}",
         Mistake::Pattern => {
             "regular expressions are not there: startsWith, endsWith, and letters(s) of lib/prelude.js"

@@ -5,7 +5,7 @@ ghost use Rattle.js_lexer.specs.declared.limits.TheConstants.{MOST_BYTES};
 ghost use Rattle.bp_slips.specs.Mistakes.{is_given};
 ghost use Rattle.bp_slips.specs.Slips.{wrong_slip, slips_at, slips_below, count_before, inserted, with_wrongs, all_slips, slip_text, slips_text, AreSlipsOf};
 
-use crate::mending::{Wrong, mend};
+use crate::mending::{Wrong, mend, rest_of};
 use crate::mistake::mistake_at;
 use crate::names::{Names, names_of};
 use crate::sentences::{mistake_words, wrong_words};
@@ -26,10 +26,9 @@ pub(crate) struct Slip {
 
 /// The slip that is wrong at a place.
 fn wrong_slip(alloc: Global, bytes: &[u8], wrong: Wrong) -> Result<Slip, Memory>
-    requires { wrong.place ≤ length bytes.now }
     ensures { IfOk result (λ s. s ≡ wrong_slip bytes.now wrong) }
 {
-    let words = wrong_words(wrong.flaw, &bytes[wrong.place as usize..]);
+    let words = wrong_words(wrong.flaw, rest_of(bytes, wrong.place as usize));
     Ok(Slip {
         place: wrong.place,
         words: Text::new(words.to_string(alloc)?),

@@ -63,7 +63,11 @@ pub(crate) fn spot_of(bytes: &[u8], place: u32) -> Spot
             return spot;
         };
         let column = column_behind(spot.column, rest);
-        let line = if ends_line(rest) { spot.line + 1 } else { spot.line };
+        let line = if ends_line(rest) {
+            spot.line + 1
+        } else {
+            spot.line
+        };
         spot = Spot { line, column };
         rest = behind;
         left -= 1;

@@ -1,5 +1,5 @@
 -- What cutting a text finds.
-use Rattle.std.specs.Prelude.{ℕ, ◌≤◌, List, length}
+use Rattle.std.specs.Prelude.{ℕ, List}
 use Rattle.std.specs.Str.{IsUtf8}
 use Rattle.js_lexer.specs.Cut.{Cut, Refused}
 use Rattle.bp_slips.specs.declared.mending.Cutting.{Cutting}
@@ -10,9 +10,3 @@ abbrev pub IsCutting : List ℕ → Cutting → Type 0
 IsCutting bytes (Whole tokens) = IsUtf8 bytes × Cut bytes tokens
 IsCutting bytes (Flawed wrong) = IsUtf8 bytes × Refused bytes wrong.flaw wrong.place
 IsCutting bytes NoText = ¬ (IsUtf8 bytes)
-
--- what is wrong stands in the text, or at its end
-abbrev pub FitsIn : List ℕ → Cutting → Type 0
-FitsIn bytes (Whole tokens) = Unit {0}
-FitsIn bytes (Flawed wrong) = wrong.place ≤ length bytes
-FitsIn bytes NoText = Unit {0}
