@@ -7,8 +7,8 @@ use Rattle.bp_script.specs.Faults.{IsScriptFault}
 use Rattle.bp_script.specs.declared.reading.ScriptFault.{ScriptFault}
 use Rattle.bp_loading.specs.declared.unloaded.Unloaded.{Unloaded}
 use Rattle.bp_loading.specs.declared.unloaded.Unloaded.TheVariants.{NotRead}
-use Rattle.bp_loading.specs.Loading.{IsUnder, IsUnloaded}
-use Rattle.bp_loading.specs.inner.Unaccepted.{IsTooLong, unaccepted_as}
+use Rattle.bp_loading.specs.Loading.{IsUnder, IsTooLong, IsUnloaded}
+use Rattle.bp_loading.specs.inner.Unaccepted.{unaccepted_as}
 
 longer : (n : ℕ) → (bytes : List ℕ) × (n < length bytes)
 longer zero = (0 ∷ [], omega arith)

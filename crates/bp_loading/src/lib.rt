@@ -4,5 +4,5 @@
 mod loading;
 mod unloaded;
 
-pub use loading::{Loaded, load};
+pub use loading::{Loaded, bytes_of, load};
 pub use unloaded::{NO_MEMORY, Unloaded};

@@ -3,8 +3,7 @@ ghost use Rattle.std.specs.Prelude.{◌≡◌, ◌⊎◌, ◌≤◌, IsErrOf, If
 ghost use Rattle.bp_base.specs.Counts.{Rose};
 ghost use Rattle.bp_base.specs.Worlds.{Asks};
 ghost use Rattle.bp_script.specs.Programs.{IsProgram};
-ghost use Rattle.bp_loading.specs.Loading.{IsUnder, IsUnloaded};
-ghost use Rattle.bp_loading.specs.inner.Unaccepted.{IsTooLong};
+ghost use Rattle.bp_loading.specs.Loading.{IsUnder, IsTooLong, IsUnloaded};
 
 use crate::unloaded::Unloaded;
 use bp_base::{ReadError, World, WorldError, read_all};
@@ -22,8 +21,14 @@ pub struct Loaded {
     pub bytes: Vec<u8>,
 }
 
-/// The bytes of that name in the world, whose input is closed again.
-fn bytes_of<W: World>(alloc: Global, world: &mut W, name: &str) -> Result<Vec<u8>, ReadError>
+/// The bytes of that name in the world, where they are not too many for a program. Their input is
+/// closed again.
+///
+/// # Errors
+///
+/// `Fault` only where the count of faults rose; `TooLong` where the world holds too many; `Memory`
+/// where memory ran out. The name is asked for, unless memory ran out.
+pub fn bytes_of<W: World>(alloc: Global, world: &mut W, name: &str) -> Result<Vec<u8>, ReadError>
     ensures bytes { IfOk result (λ v. IsUnder (W.holds world.old) name.now v.items) }
     ensures within { IfOk result (λ v. vec_len v ≤ MOST_BYTES) }
     ensures too_long { IsErrOf result ReadError.TooLong → IsTooLong (W.holds world.old) name.now }

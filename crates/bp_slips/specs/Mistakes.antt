@@ -49,7 +49,8 @@ is_given tokens word = is_given_below tokens word (length tokens)
 
 -- behind a dot, or a key: there each word may stand
 abbrev pub is_field_word : List Token → ℕ → Bool
-is_field_word tokens n = bytes_eq (before tokens n 1) (codes ".") || bytes_eq (behind tokens n) (codes ":")
+is_field_word tokens n =
+    is_among (codes "." ∷ codes "?." ∷ []) (before tokens n 1) || bytes_eq (behind tokens n) (codes ":")
 
 abbrev pub is_unsupported : List Token → ℕ → Bool
 is_unsupported tokens n = is_refused (slice_get tokens n) && not (is_field_word tokens n)
@@ -107,18 +108,22 @@ is_unknown tokens n =
     && (not (is_field_word tokens n)
     && (not (is_among known_names (here tokens n)) && not (is_given tokens (here tokens n))))
 
--- what stands so many tokens before is a name that nothing gives
-abbrev pub is_unknown_before : List Token → ℕ → ℕ → Bool
-is_unknown_before tokens n k = if nat_lt n k then false else is_unknown tokens (n - k)
+-- a name that nothing gives, or no form
+abbrev pub is_none : List Token → ℕ → Bool
+is_none tokens n = is_unknown tokens n || is_no_form tokens n
 
--- of a name that nothing gives no method is told
+-- what stands so many tokens before is such a one
+abbrev pub is_none_before : List Token → ℕ → ℕ → Bool
+is_none_before tokens n k = if nat_lt n k then false else is_none tokens (n - k)
+
+-- behind what is not there itself no method is told
 abbrev pub is_no_method : List Token → ℕ → Bool
 is_no_method tokens n =
     bytes_eq (before tokens n 1) (codes ".")
     && (is_called tokens n
     && (bytes_eq (object_of tokens n) []
     && (not (is_method (here tokens n))
-    && (not (is_given tokens (here tokens n)) && not (is_unknown_before tokens n 2)))))
+    && (not (is_given tokens (here tokens n)) && not (is_none_before tokens n 2)))))
 
 -- the first that it is
 abbrev pub mistake_at : List Token → ℕ → Option Mistake

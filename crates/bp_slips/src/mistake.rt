@@ -3,7 +3,7 @@ ghost use Rattle.std.specs.Prelude.{◌≡◌, ◌+◌, ◌∷◌, [], ◌&&◌,
 ghost use Rattle.std.specs.Str.{bytes_eq};
 ghost use Rattle.std.specs.HashSet.{contains_text};
 ghost use Rattle.bp_slips.specs.Looks.{is_among};
-ghost use Rattle.bp_slips.specs.Mistakes.{declarers, openers, assignments, is_field_word, is_unsupported, is_assigned, is_taken_apart, is_named, is_pattern, object_of, is_called, is_no_form_of, is_no_form, known_names, is_given, is_unknown, is_unknown_before, is_no_method, mistake_at};
+ghost use Rattle.bp_slips.specs.Mistakes.{declarers, openers, assignments, is_field_word, is_unsupported, is_assigned, is_taken_apart, is_named, is_pattern, object_of, is_called, is_no_form_of, is_no_form, known_names, is_given, is_unknown, is_none, is_none_before, is_no_method, mistake_at};
 
 use crate::looks::{before, behind, here, is_among, is_name, is_refused};
 use crate::names::Names;
@@ -60,7 +60,7 @@ fn assigns(word: &str) -> bool
 fn is_field_word(tokens: &[Token], number: usize) -> bool
     ensures { result ≡ is_field_word tokens.now number }
 {
-    before(tokens, number, 1) == "." || behind(tokens, number) == ":"
+    is_among(&[".", "?."], before(tokens, number, 1)) || behind(tokens, number) == ":"
 }
 
 fn is_unsupported(tokens: &[Token], number: usize) -> bool
@@ -155,12 +155,20 @@ fn is_unknown(tokens: &[Token], names: &Names, number: usize) -> bool
         && !names.contains(here(tokens, number))
 }
 
-/// Whether what stands so many before is a name that nothing gives.
-fn is_unknown_before(tokens: &[Token], names: &Names, number: usize, count: usize) -> bool
+/// Whether the token is a name that nothing gives, or no form.
+fn is_none(tokens: &[Token], names: &Names, number: usize) -> bool
     requires { (word : List ℕ) → contains_text names.now word ≡ is_given tokens.now word }
-    ensures { result ≡ is_unknown_before tokens.now number count }
+    ensures { result ≡ is_none tokens.now number }
 {
-    number >= count && is_unknown(tokens, names, number - count)
+    is_unknown(tokens, names, number) || is_no_form(tokens, number)
+}
+
+/// Whether what stands so many tokens before is such a one.
+fn is_none_before(tokens: &[Token], names: &Names, number: usize, count: usize) -> bool
+    requires { (word : List ℕ) → contains_text names.now word ≡ is_given tokens.now word }
+    ensures { result ≡ is_none_before tokens.now number count }
+{
+    number >= count && is_none(tokens, names, number - count)
 }
 
 fn is_no_method(tokens: &[Token], names: &Names, number: usize) -> bool
@@ -173,7 +181,7 @@ fn is_no_method(tokens: &[Token], names: &Names, number: usize) -> bool
         && object_of(tokens, number).is_empty()
         && !is_method(word)
         && !names.contains(word)
-        && !is_unknown_before(tokens, names, number, 2)
+        && !is_none_before(tokens, names, number, 2)
 }
 
 /// The first mistake that the token is.

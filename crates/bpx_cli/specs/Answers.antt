@@ -3,10 +3,12 @@ use Rattle.std.specs.Prelude.{◌≡◌, ◌⊎◌, ℕ, List, [], ◌∷◌, Op
 use Rattle.bp_base.specs.Worlds.{Holdings}
 use Rattle.bp_base.specs.Pieces.{Appends, AppendsFront}
 use Rattle.js_program.specs.PlainProgram.{PlainProgram}
-use Rattle.bp_script.specs.Programs.{IsProgram}
+use Rattle.bp_script.specs.declared.refusal.Refusal.{Refusal}
+use Rattle.bp_script.specs.Programs.{IsProgram, IsRefused}
 use Rattle.bp_loading.specs.Loading.{IsUnder, IsRefusedUnder}
 use Rattle.bp_check.specs.Findings.{Finding, findings}
 use Rattle.bp_check.specs.Sentences.{check_text}
+use Rattle.bp_slips.specs.Slips.{AreSlipsOf}
 use Rattle.bp_explain.specs.Seeds.{seeds_of}
 use Rattle.bpx_cli.specs.SeedsAsked.{PlainSeeds}
 use Rattle.bpx_cli.specs.declared.request.Request.{Request}
@@ -39,11 +41,23 @@ pub record IsChecked (program : PlainProgram) (text : List ℕ) (end : Ended) : 
   pub says : text ≡ check_text program
   pub ends : end ≡ checked (findings program)
 
--- what is found of the program of that name
+-- what is found in bytes: of an accepted program its findings, and of a refused one its slips, beside the refusal
+abbrev pub IsFoundIn : List ℕ → List ℕ → Ended → Type 0
+IsFoundIn bytes text (Refused refusal) = IsRefused bytes refusal × AreSlipsOf bytes text
+IsFoundIn bytes text end = (program : PlainProgram) × IsProgram bytes program × IsChecked program text end
+
+-- what is found in the bytes under the name
 pub record IsCheckOf (holds : Option Holdings) (name text : List ℕ) (end : Ended) : Type 0 where
-  pub program : PlainProgram
-  pub is_program : IsProgramOf holds name program
-  pub is_checked : IsChecked program text end
+  pub bytes : List ℕ
+  pub under : IsUnder holds name bytes
+  pub is_found : IsFoundIn bytes text end
+
+-- why the bytes of that name are not read: they are too many, or reading failed
+abbrev pub IsUnread : Option Holdings → List ℕ → Ended → Type 0
+IsUnread holds name (Refused Refusal.TooLong) = IsRefusedUnder holds name Refusal.TooLong
+IsUnread holds name NotRead = Unit {0}
+IsUnread holds name NoMemory = Unit {0}
+IsUnread holds name _ = ⊥
 
 -- how the runs of the program of that name end under each of the seeds
 pub record AreSeedsOf (holds : Option Holdings) (asked : PlainSeeds) (text : List ℕ) : Type 0 where
@@ -62,7 +76,7 @@ Answers holds (request.Seeds s) text end = AreSeedsOf holds s text × (end ≡ A
 -- nothing answers it: its program is refused, its log has not what is asked about, or it was not read, or memory ran out
 abbrev pub IsUnanswered : Option Holdings → Request → Ended → Type 0
 IsUnanswered holds request.Help end = end ≡ NoMemory
-IsUnanswered holds (request.Check name) end = IsUnloaded holds name end
+IsUnanswered holds (request.Check name) end = IsUnread holds name end
 IsUnanswered holds (request.State s) end = IsUnstated holds s end
 IsUnanswered holds (request.Why w) end = IsUnexplained holds w end
 IsUnanswered holds (request.Seeds s) end = IsUnloaded holds s.program end
@@ -89,7 +103,8 @@ EndsAs holds asked before after Found = IsAnswered holds asked before after Foun
 EndsAs holds asked before after NotWritten = IsCut holds asked before after
 EndsAs holds asked before after NoCommand = ⊥
 EndsAs holds asked before after (Refused refusal) =
-    (after ≡ before) × IsUnanswered holds asked (Refused refusal)
+    IsAnswered holds asked before after (Refused refusal)
+    ⊎ ((after ≡ before) × IsUnanswered holds asked (Refused refusal))
 EndsAs holds asked before after Absent = (after ≡ before) × IsUnanswered holds asked Absent
 EndsAs holds asked before after (BadLog fault) =
     (after ≡ before) × IsUnanswered holds asked (BadLog fault)

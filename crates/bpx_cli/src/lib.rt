@@ -4,6 +4,7 @@
 mod answering;
 mod asking;
 mod behind;
+mod checking;
 mod ended;
 mod help;
 mod reasoning;

@@ -4,7 +4,7 @@ use Rattle.bpx_cli.specs.declared.ended.Ended.{Ended}
 use Rattle.bpx_cli.specs.Answers.{IsChecked}
 use Rattle.bpx_cli.specs.inner.Ends.{ended_by}
 use Rattle.bpx_cli.proofs.Tells.{is_checked}
-use Rattle.bpx_cli.proofs.answering.checked.Goals as goal
+use Rattle.bpx_cli.proofs.checking.checked.Goals as goal
 
 pub returns : goal.returns
 returns c =
