@@ -1,9 +1,10 @@
--- The table of docs/LANGUAGE.md: what of JavaScript and of BPjs is not there, and what stands here in its place.
-use Rattle.std.specs.Prelude.{ℕ, List, [], ◌∷◌, codes, Option, Some, None, if◌then◌else◌}
+-- The table of docs/LANGUAGE.md: what of JavaScript and of BPjs is not there, each with what is written in its place.
+use Rattle.std.specs.Prelude.{ℕ, List, [], ◌∷◌, codes, Option}
 use Rattle.bp_check.specs.Sentences.{told_in}
 
-abbrev pub rows : List (List ℕ × List ℕ)
-rows =
+-- words and marks that the language refuses
+abbrev pub words : List (List ℕ × List ℕ)
+words =
     (codes "switch", codes "if and else if")
     ∷ (codes "case", codes "if and else if")
     ∷ (codes "default", codes "else")
@@ -34,7 +35,12 @@ rows =
     ∷ (codes ">>", codes "Math.floor(a / 2)")
     ∷ (codes "&", codes "&& of truth values")
     ∷ (codes "|", codes "|| of truth values")
-    ∷ (codes "JSON", codes "bp.log.info(x)")
+    ∷ []
+
+-- names of JavaScript and of BPjs
+abbrev pub names : List (List ℕ × List ℕ)
+names =
+    (codes "JSON", codes "bp.log.info(x)")
     ∷ (codes "console", codes "bp.log.info(x)")
     ∷ (codes "print", codes "bp.log.info(x)")
     ∷ (codes "Object", codes "a list of the keys")
@@ -55,7 +61,12 @@ rows =
     ∷ (codes "Event", codes "bp.Event(name)")
     ∷ (codes "EventSet", codes "bp.EventSet(name, f)")
     ∷ (codes "Any", codes "named(name) of lib/prelude.js")
-    ∷ (codes "bp.log.debug", codes "bp.log.info(x)")
+    ∷ []
+
+-- words of `bp`, `bp.log` and `Math`
+abbrev pub forms : List (List ℕ × List ℕ)
+forms =
+    (codes "bp.log.debug", codes "bp.log.info(x)")
     ∷ (codes "bp.log.fine", codes "bp.log.info(x)")
     ∷ (codes "bp.log.warn", codes "bp.log.info(x)")
     ∷ (codes "bp.log.error", codes "bp.log.info(x)")
@@ -76,6 +87,11 @@ rows =
     ∷ (codes "Math.trunc", codes "Math.floor(a / b)")
     ∷ []
 
--- what stands here for it, where the table has it
-unfoldable pub instead : List ℕ → Option (List ℕ)
-instead word = told_in word rows
+unfoldable pub for_word : List ℕ → Option (List ℕ)
+for_word word = told_in word words
+
+unfoldable pub for_name : List ℕ → Option (List ℕ)
+for_name name = told_in name names
+
+unfoldable pub for_form : List ℕ → Option (List ℕ)
+for_form form = told_in form forms

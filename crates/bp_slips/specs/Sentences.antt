@@ -10,7 +10,7 @@ use Rattle.bp_slips.specs.declared.mistake.Mistake.{Mistake}
 use Rattle.bp_slips.specs.declared.mistake.Mistake.TheVariants.{Unsupported, Assigned, TakenApart, Named, Pattern, NoForm, NoMethod, Unknown}
 use Rattle.bp_slips.specs.Looks.{here}
 use Rattle.bp_slips.specs.Mistakes.{object_of}
-use Rattle.bp_slips.specs.Instead.{instead}
+use Rattle.bp_slips.specs.Instead.{for_word, for_name, for_form}
 
 -- what is unsupported and no token is a template, or a number that is not whole
 abbrev pub unsupported_words : List ℕ → List ℕ
@@ -37,10 +37,10 @@ form_of object word = object ++ (codes "." ++ word)
 
 -- a form that is not called, or called and none that is; or no form
 abbrev pub no_form_words : List ℕ → List ℕ
-no_form_words form = form ++ (codes " is no form that stands so" ++ or_nothing (instead form))
+no_form_words form = form ++ (codes " is no form that stands so" ++ or_nothing (for_form form))
 
 abbrev pub mistake_words : Mistake → List Token → ℕ → List ℕ
-mistake_words Unsupported tokens n = here tokens n ++ (codes " is not there" ++ or_nothing (instead (here tokens n)))
+mistake_words Unsupported tokens n = here tokens n ++ (codes " is not there" ++ or_nothing (for_word (here tokens n)))
 mistake_words Assigned tokens n =
     codes "an element or a field is not assigned: put(l, i, v) of lib/prelude.js, and new fields"
 mistake_words TakenApart tokens n = codes "names are taken one by one: const x = p.x, and const a = l[0]"
@@ -48,4 +48,4 @@ mistake_words Named tokens n = codes "a function that is a value has no name: co
 mistake_words Pattern tokens n = codes "regular expressions are not there: startsWith, endsWith, and letters(s) of lib/prelude.js"
 mistake_words NoForm tokens n = no_form_words (form_of (object_of tokens n) (here tokens n))
 mistake_words NoMethod tokens n = codes "nothing has a method " ++ (here tokens n ++ (codes ": " ++ hint (here tokens n)))
-mistake_words Unknown tokens n = codes "nothing declares " ++ (here tokens n ++ or_nothing (instead (here tokens n)))
+mistake_words Unknown tokens n = codes "nothing declares " ++ (here tokens n ++ or_nothing (for_name (here tokens n)))

@@ -1,11 +1,12 @@
-//! What stands here for what is not there.
+//! What is written in the place of what is not there.
 ghost use Rattle.std.specs.Prelude.{◌≡◌, map, option_map};
 ghost use Rattle.std.specs.Str.{bytes_eq};
-ghost use Rattle.bp_slips.specs.Instead.{rows, instead};
+ghost use Rattle.bp_check.specs.Sentences.{told_in};
+ghost use Rattle.bp_slips.specs.Instead.{words, names, forms, for_word, for_name, for_form};
 
-/// What of JavaScript and of BPjs is not there, each with what stands here in its place.
-fn rows() -> [(&'static str, &'static str); 70]
-    ensures { map (λ r. (r.0.now, r.1.now)) result ≡ rows }
+/// Words and marks that the language refuses.
+fn words() -> [(&'static str, &'static str); 30]
+    ensures { map (λ r. (r.0.now, r.1.now)) result ≡ words }
 {
     [
         ("switch", "if and else if"),
@@ -38,6 +39,14 @@ fn rows() -> [(&'static str, &'static str); 70]
         (">>", "Math.floor(a / 2)"),
         ("&", "&& of truth values"),
         ("|", "|| of truth values"),
+    ]
+}
+
+/// Names of JavaScript and of BPjs.
+fn names() -> [(&'static str, &'static str); 21]
+    ensures { map (λ r. (r.0.now, r.1.now)) result ≡ names }
+{
+    [
         ("JSON", "bp.log.info(x)"),
         ("console", "bp.log.info(x)"),
         ("print", "bp.log.info(x)"),
@@ -59,6 +68,14 @@ fn rows() -> [(&'static str, &'static str); 70]
         ("Event", "bp.Event(name)"),
         ("EventSet", "bp.EventSet(name, f)"),
         ("Any", "named(name) of lib/prelude.js"),
+    ]
+}
+
+/// Words of `bp`, `bp.log` and `Math`.
+fn forms() -> [(&'static str, &'static str); 19]
+    ensures { map (λ r. (r.0.now, r.1.now)) result ≡ forms }
+{
+    [
         ("bp.log.debug", "bp.log.info(x)"),
         ("bp.log.fine", "bp.log.info(x)"),
         ("bp.log.warn", "bp.log.info(x)"),
@@ -94,15 +111,39 @@ fn is_same(a: &str, b: &str) -> bool
     a == b
 }
 
-/// What stands here for it, where the table has it.
-#[tactic(auto, unfolding(crate::specs::Instead::instead))]
-pub(crate) fn instead(word: &str) -> Option<&'static str>
-    ensures { option_map (λ w. w.now) result ≡ instead word.now }
+/// What the first of the rows with this word has for it.
+fn told_in(word: &str, rows: &[(&'static str, &'static str)]) -> Option<&'static str>
+    ensures { option_map (λ w. w.now) result
+        ≡ told_in word.now (map (λ r. (r.0.now, r.1.now)) rows.now) }
 {
-    for row in rows() {
+    for row in rows {
         if is_same(word, row.0) {
             return Some(row.1);
         }
     }
     None
+}
+
+/// What is written in the place of a word or a mark, where the table has it.
+#[tactic(auto, unfolding(crate::specs::Instead::for_word))]
+pub(crate) fn for_word(word: &str) -> Option<&'static str>
+    ensures { option_map (λ w. w.now) result ≡ for_word word.now }
+{
+    told_in(word, &words())
+}
+
+/// What is written in the place of a name, where the table has it.
+#[tactic(auto, unfolding(crate::specs::Instead::for_name))]
+pub(crate) fn for_name(name: &str) -> Option<&'static str>
+    ensures { option_map (λ w. w.now) result ≡ for_name name.now }
+{
+    told_in(name, &names())
+}
+
+/// What is written in the place of a word of `bp`, `bp.log` or `Math`, with its object, where the table has it.
+#[tactic(auto, unfolding(crate::specs::Instead::for_form))]
+pub(crate) fn for_form(form: &str) -> Option<&'static str>
+    ensures { option_map (λ w. w.now) result ≡ for_form form.now }
+{
+    told_in(form, &forms())
 }

@@ -2,9 +2,9 @@
 ghost use Rattle.std.specs.Prelude.{◌≡◌, ◌++◌, IfOk, OnOk, codes, string_bytes, option_map};
 ghost use Rattle.bp_check.specs.Sentences.{hint};
 ghost use Rattle.bp_slips.specs.Sentences.{unsupported_words, wrong_words, or_nothing, form_of, no_form_words, mistake_words};
-ghost use Rattle.bp_slips.specs.Instead.{instead as stands_instead};
+ghost use Rattle.bp_slips.specs.Instead.{for_word, for_name, for_form};
 
-use crate::instead::instead;
+use crate::instead::{for_form, for_name, for_word};
 use crate::looks::here;
 use crate::mistake::{Mistake, object_of};
 use bp_check::write_hint;
@@ -37,12 +37,12 @@ pub(crate) fn wrong_words(flaw: Flaw, bytes: &[u8]) -> &'static str
     }
 }
 
-/// Puts what stands here for it at the end, if the table has that.
-fn push_instead(word: &str, text: &mut String) -> Result<(), Memory>
+/// Puts what is written in its place at the end, if there is something.
+fn push_instead(instead: Option<&str>, text: &mut String) -> Result<(), Memory>
     ensures { OnOk result (string_bytes text.new
-        ≡ string_bytes text.old ++ or_nothing (stands_instead word.now)) }
+        ≡ string_bytes text.old ++ or_nothing (option_map (λ w. w.now) instead.entry)) }
 {
-    match instead(word) {
+    match instead {
         None => Ok(()),
         Some(words) => {
             text.push_str(": ")?;
@@ -54,11 +54,11 @@ fn push_instead(word: &str, text: &mut String) -> Result<(), Memory>
 /// That a word or a mark is not there.
 fn unsupported(alloc: Global, word: &str) -> Result<String, Memory>
     ensures { IfOk result (λ s. string_bytes s
-        ≡ word.now ++ (codes " is not there" ++ or_nothing (stands_instead word.now))) }
+        ≡ word.now ++ (codes " is not there" ++ or_nothing (for_word word.now))) }
 {
     let mut text = String::from_str(alloc, word)?;
     text.push_str(" is not there")?;
-    push_instead(word, &mut text)?;
+    push_instead(for_word(word), &mut text)?;
     Ok(text)
 }
 
@@ -69,7 +69,7 @@ fn no_form(alloc: Global, object: &str, word: &str) -> Result<String, Memory>
     let form = format!(in alloc; "{object}.{word}")?;
     let mut text = String::from_str(alloc, form.as_str())?;
     text.push_str(" is no form that stands so")?;
-    push_instead(form.as_str(), &mut text)?;
+    push_instead(for_form(form.as_str()), &mut text)?;
     Ok(text)
 }
 
@@ -88,11 +88,11 @@ fn no_method(alloc: Global, word: &str) -> Result<String, Memory>
 /// That nothing declares a name.
 fn unknown(alloc: Global, word: &str) -> Result<String, Memory>
     ensures { IfOk result (λ s. string_bytes s
-        ≡ codes "nothing declares " ++ (word.now ++ or_nothing (stands_instead word.now))) }
+        ≡ codes "nothing declares " ++ (word.now ++ or_nothing (for_name word.now))) }
 {
     let mut text = String::from_str(alloc, "nothing declares ")?;
     text.push_str(word)?;
-    push_instead(word, &mut text)?;
+    push_instead(for_name(word), &mut text)?;
     Ok(text)
 }
 
