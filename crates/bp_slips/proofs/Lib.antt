@@ -1,0 +1,3 @@
+pub mod Mendings
+pub mod Places
+pub mod Bytes

@@ -5,7 +5,8 @@ use Rattle.std.specs.Str.{bytes_eq}
 use Rattle.js_lexer.specs.declared.token.Kind.{Kind}
 use Rattle.js_lexer.specs.declared.token.Kind.TheVariants.{Name, Keyword, Number, Text, Mark}
 use Rattle.js_lexer.specs.declared.token.Token.{Token}
-use Rattle.js_lexer.specs.declared.sort.Sort.TheVariants as sort
+use Rattle.js_lexer.specs.declared.sort.Sort.{Sort}
+use Rattle.js_grammar.specs.Sorts.{is}
 
 -- a name, a word and a mark as they stand; 0 for each number, and " for each text
 abbrev pub spelling : Kind → List ℕ
@@ -35,7 +36,7 @@ is_name (Some t) = elim t.kind [ Name text ↦ true | _ ↦ false ]
 
 abbrev pub is_refused : Option Token → Bool
 is_refused None = false
-is_refused (Some t) = elim t.sort [ sort.Unsupported ↦ true | _ ↦ false ]
+is_refused (Some t) = is Sort.Unsupported t
 
 abbrev pub is_among : List (List ℕ) → List ℕ → Bool
 is_among words word = list_any (bytes_eq word) words

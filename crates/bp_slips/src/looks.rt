@@ -4,6 +4,7 @@ ghost use Rattle.js_lexer.specs.declared.token.Kind.{Kind};
 ghost use Rattle.std.specs.Str.{bytes_eq};
 ghost use Rattle.bp_slips.specs.Looks.{spelling, here, before, behind, is_name, is_refused, is_among};
 
+use js_cursor::cursor::is_sort;
 use js_lexer::{Kind, Sort, Token};
 
 /// A name, a word and a mark as they stand; 0 for each number, and " for each text.
@@ -64,7 +65,7 @@ pub(crate) fn is_refused(tokens: &[Token], number: usize) -> bool
     ensures { result ≡ is_refused (slice_get tokens.now number) }
 {
     match tokens.get(number) {
-        Some(token) => matches!(token.sort, Sort::Unsupported),
+        Some(token) => is_sort(token, Sort::Unsupported),
         None => false,
     }
 }

@@ -183,6 +183,7 @@ fn push_blanks(bytes: &[u8], text: &mut Vec<u8>) -> Result<(), Memory>
 }
 
 /// The bytes before the place.
+#[tactic(auto, using(crate::proofs::Bytes::take_all))]
 fn front_of(bytes: &[u8], place: usize) -> &[u8]
     ensures { result.now ≡ take place bytes.now }
 {
@@ -194,6 +195,7 @@ fn front_of(bytes: &[u8], place: usize) -> &[u8]
 }
 
 /// The bytes from the place on.
+#[tactic(auto, using(crate::proofs::Bytes::drop_all))]
 pub(crate) fn rest_of(bytes: &[u8], place: usize) -> &[u8]
     ensures { result.now ≡ drop place bytes.now }
 {
