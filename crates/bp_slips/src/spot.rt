@@ -50,7 +50,7 @@ fn column_behind(column: u32, bytes: &[u8]) -> u32
 }
 
 /// The line and the column of a place.
-#[tactic(auto, using(crate::proofs::Places::column_step, crate::proofs::Places::column_none, crate::proofs::Places::column_all))]
+#[tactic(auto, using(js_lexer::proofs::Lines::line_ends_step, js_lexer::proofs::Lines::line_ends_none, crate::proofs::Places::column_step, crate::proofs::Places::column_none, crate::proofs::Places::column_all))]
 pub(crate) fn spot_of(bytes: &[u8], place: u32) -> Spot
     requires { length bytes.now ≤ MOST_BYTES }
     ensures line { result.line ≡ line_of bytes.now place }
