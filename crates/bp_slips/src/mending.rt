@@ -1,9 +1,9 @@
 //! What is wrong in a text gives way to spaces, until the text is cut into tokens.
-ghost use Rattle.std.specs.Prelude.{◌≡◌, ◌≤◌, ◌+◌, ◌++◌, IfOk, OnOk, length, map, take, drop, false};
+ghost use Rattle.std.specs.Prelude.{◌≡◌, ◌≤◌, ◌+◌, ◌++◌, Some, IfOk, OnOk, length, map, take, drop, false, []};
 ghost use Rattle.js_lexer.specs.declared.limits.TheConstants.{MOST_BYTES};
 ghost use Rattle.js_lexer.specs.Literals.{is_break};
 ghost use Rattle.bp_slips.specs.Mending.{is_run_byte, run_size, word_size, rest_size, template_size, open_size, unsupported_size, wrong_size, blank, blanked, without, Mends};
-ghost use Rattle.bp_slips.specs.inner.Cuttings.{IsCutting};
+ghost use Rattle.bp_slips.specs.inner.Cuttings.{IsCutting, cutting_of};
 
 use js_data::Memory;
 use js_lexer::{Flaw, LexFault, Token, lex};
@@ -37,10 +37,25 @@ pub(crate) struct Mended {
     pub(crate) tokens: Vec<Token>,
 }
 
-fn flawed(flaw: Flaw, place: u32) -> Cutting
-    ensures { result ≡ Cutting.Flawed (record { flaw = flaw; place = place }) }
+fn flawed(flaw: Flaw, place: u32) -> Option<Cutting>
+    ensures { result ≡ Some (Cutting.Flawed (record { flaw = flaw; place = place })) }
 {
-    Cutting::Flawed(Wrong { flaw, place })
+    Some(Cutting::Flawed(Wrong { flaw, place }))
+}
+
+/// What a refusal says is found.
+fn cutting_of(fault: LexFault) -> Option<Cutting>
+    ensures { result ≡ cutting_of fault }
+{
+    match fault {
+        LexFault::Character(place) => flawed(Flaw::Character, place),
+        LexFault::OpenText(place) => flawed(Flaw::OpenText, place),
+        LexFault::Escape(place) => flawed(Flaw::Escape, place),
+        LexFault::NumberRange(place) => flawed(Flaw::NumberRange, place),
+        LexFault::Unsupported(place) => flawed(Flaw::Unsupported, place),
+        LexFault::Utf8(_) => Some(Cutting::NoText),
+        LexFault::Memory => None,
+    }
 }
 
 /// What cutting the bytes finds.
@@ -50,13 +65,10 @@ fn cut(alloc: Global, bytes: &[u8]) -> Result<Cutting, Memory>
 {
     match lex(alloc, bytes) {
         Ok(tokens) => Ok(Cutting::Whole(tokens)),
-        Err(LexFault::Character(place)) => Ok(flawed(Flaw::Character, place)),
-        Err(LexFault::OpenText(place)) => Ok(flawed(Flaw::OpenText, place)),
-        Err(LexFault::Escape(place)) => Ok(flawed(Flaw::Escape, place)),
-        Err(LexFault::NumberRange(place)) => Ok(flawed(Flaw::NumberRange, place)),
-        Err(LexFault::Unsupported(place)) => Ok(flawed(Flaw::Unsupported, place)),
-        Err(LexFault::Utf8(_)) => Ok(Cutting::NoText),
-        Err(LexFault::Memory) => Err(AllocError),
+        Err(fault) => match cutting_of(fault) {
+            Some(cutting) => Ok(cutting),
+            None => Err(AllocError),
+        },
     }
 }
 
@@ -227,6 +239,17 @@ fn without(alloc: Global, bytes: &[u8], wrong: Wrong) -> Result<Vec<u8>, Memory>
     blanked(alloc, bytes, place, size)
 }
 
+/// What is wrong, and no tokens.
+fn without_tokens(alloc: Global, wrongs: Vec<Wrong>) -> Mended
+    ensures wrongs { result.wrongs ≡ wrongs }
+    ensures tokens { result.tokens.items ≡ [] }
+{
+    Mended {
+        wrongs,
+        tokens: Vec::new(alloc),
+    }
+}
+
 /// What is wrong in a text, and its tokens without it.
 pub(crate) fn mend(alloc: Global, bytes: &[u8]) -> Result<Mended, Memory>
     requires { length bytes.now ≤ MOST_BYTES }
@@ -244,11 +267,8 @@ pub(crate) fn mend(alloc: Global, bytes: &[u8]) -> Result<Mended, Memory>
                 text = without(alloc, text.as_slice(), wrong)?;
                 wrongs.push(wrong)?;
             }
-            Cutting::NoText => break 'more,
+            Cutting::NoText => return Ok(without_tokens(alloc, wrongs)),
         }
     }
-    Ok(Mended {
-        wrongs,
-        tokens: Vec::new(alloc),
-    })
+    Ok(without_tokens(alloc, wrongs))
 }
