@@ -31,7 +31,7 @@ abbrev of_nodes : List PlainNode → PlainProgram
 of_nodes nodes = program nodes [] [] (statements 0 [])
 
 abbrev found : List PlainNode → List Finding
-found nodes = findings (of_nodes nodes)
+found nodes = findings (of_nodes nodes) false
 
 abbrev at : ℕ → Kind → Finding
 at line kind = record { line = line; kind = kind }
@@ -123,13 +123,14 @@ pub at_the_top :
     (slot 0 ∷ slot 0 ∷ one (p.fields [] []) ∷ on 1 (p.builtin form.Sync (2 ∷ [])) ∷ one (p.expression 3) ∷ one (p.fields [] []) ∷ on 2 (p.builtin form.Sync (5 ∷ [])) ∷ one (p.expression 6)
     ∷ one (p.if_else 1 4 7) ∷ one (p.block [] (8 ∷ [])) ∷ one (p.for_of 1 0 9) ∷ one (p.fields [] []) ∷ on 3 (p.builtin form.Sync (11 ∷ [])) ∷ one (p.expression 12) ∷ one (p.function 0)
     ∷ one (p.expression 14) ∷ [])
-    (statements 0 (13 ∷ []) ∷ []) [] (statements 2 (10 ∷ 15 ∷ [])))
+    (statements 0 (13 ∷ []) ∷ []) [] (statements 2 (10 ∷ 15 ∷ []))) false
     ≡ at 1 f.top_sync ∷ at 2 f.top_sync ∷ []
 at_the_top = refl
 
--- bp.sync(1, 2) at the top level, whose body is one value: all three
-pub all_at_the_top : findings (program (whole 1 ∷ whole 2 ∷ one (p.builtin form.Sync (0 ∷ 1 ∷ [])) ∷ []) [] [] (body 0 0 (p.one_value 2)))
-    ≡ at 1 f.top_sync ∷ at 1 f.no_statement ∷ at 1 f.has_priority ∷ []
+-- bp.sync(1, 2) at the top level, whose body is one value: all three, and where priorities count, two
+pub all_at_the_top :
+    map (findings (program (whole 1 ∷ whole 2 ∷ one (p.builtin form.Sync (0 ∷ 1 ∷ [])) ∷ []) [] [] (body 0 0 (p.one_value 2)))) (false ∷ true ∷ [])
+    ≡ (at 1 f.top_sync ∷ at 1 f.no_statement ∷ at 1 f.has_priority ∷ []) ∷ (at 1 f.top_sync ∷ at 1 f.no_statement ∷ []) ∷ []
 all_at_the_top = refl
 
 -- the parts of parts, and none of what stands in the function of node 2
@@ -138,7 +139,7 @@ pub numbers_at_the_top : top_numbers (program (slot 0 ∷ one (p.unary Not 0) �
 numbers_at_the_top = refl
 
 -- other forms may stand there: bp.Event(s), bp.all
-pub others_at_the_top : findings (program (slot 0 ∷ one (p.builtin form.Event (0 ∷ [])) ∷ one (p.builtin form.All []) ∷ []) [] [] (statements 0 (1 ∷ 2 ∷ []))) ≡ []
+pub others_at_the_top : findings (program (slot 0 ∷ one (p.builtin form.Event (0 ∷ [])) ∷ one (p.builtin form.All []) ∷ []) [] [] (statements 0 (1 ∷ 2 ∷ []))) false ≡ []
 others_at_the_top = refl
 
 -- ---- texts of bp.ASSERT
@@ -200,7 +201,7 @@ not_by_zero = refl
 
 -- ---- all of them
 
-pub nothing_found : findings (of_nodes []) ≡ []
+pub nothing_found : findings (of_nodes []) false ≡ []
 nothing_found = refl
 
 -- bp.ASSERT(x.map(7 / 2)) on the lines 1, 2 and 3, then x.push() on line 1: each part before its whole, all of them

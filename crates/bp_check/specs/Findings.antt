@@ -1,5 +1,5 @@
 -- What of an accepted program will be at fault, or does other than it seems to.
-use Rattle.std.specs.Prelude.{ℕ, ℤ, pos, negsuc, zero, suc, ◌%◌, Bool, true, false, nat_eq, List, [], ◌∷◌, ◌++◌, length, flat_map, slice_get, Option, Some, None, if◌then◌else◌}
+use Rattle.std.specs.Prelude.{ℕ, ℤ, pos, negsuc, zero, suc, ◌%◌, Bool, true, false, ◌||◌, nat_eq, List, [], ◌∷◌, ◌++◌, length, flat_map, slice_get, Option, Some, None, if◌then◌else◌}
 use Rattle.std.specs.List.{list_any, zip}
 use Rattle.std.specs.Str.{bytes_eq}
 use Rattle.js_tree.specs.declared.tree.Sign.TheVariants.{Minus, Plus}
@@ -13,6 +13,7 @@ use Rattle.js_program.specs.PlainProgram.{PlainNodeForm, number, text, truth, nu
 use Rattle.bp_meaning.specs.Statements.{is_key}
 use Rattle.bp_check.specs.Words.{is_method}
 use Rattle.bp_check.specs.Tops.{is_at_top}
+use Rattle.bp_check.specs.declared.around.Around.{Around}
 
 pub data Kind : Type 0 where
   -- no value has a method of this name, and no field of the program has it
@@ -102,13 +103,16 @@ abbrev pub of_statement : PlainProgram → ℕ → Option PlainNode → List Fin
 of_statement p line None = []
 of_statement p line (Some x) = of_statement_form p line x.form
 
-abbrev pub of_priority : PlainProgram → ℕ → List ℕ → List Finding
-of_priority p line [] = []
-of_priority p line (n ∷ dropped) = if is_absent (slice_get p.nodes n) then [] else one line has_priority
+-- where priorities count, none is told
+abbrev pub of_priority : PlainProgram → Bool → ℕ → List ℕ → List Finding
+of_priority p by_priority line [] = []
+of_priority p by_priority line (n ∷ dropped) =
+    if by_priority || is_absent (slice_get p.nodes n) then [] else one line has_priority
 
-abbrev pub of_stated : PlainProgram → ℕ → List ℕ → List Finding
-of_stated p line [] = one line no_statement
-of_stated p line (n ∷ more) = of_statement p line (slice_get p.nodes n) ++ of_priority p line more
+abbrev pub of_stated : PlainProgram → Bool → ℕ → List ℕ → List Finding
+of_stated p by_priority line [] = one line no_statement
+of_stated p by_priority line (n ∷ more) =
+    of_statement p line (slice_get p.nodes n) ++ of_priority p by_priority line more
 
 abbrev pub of_top : Bool → ℕ → List Finding
 of_top false line = []
@@ -170,10 +174,11 @@ of_literals line _ _ = []
 
 -- ---- programs
 
-abbrev pub of_form : PlainProgram → Bool → ℕ → Builtin → List ℕ → List Finding
-of_form p at_top line Sync arguments = of_top at_top line ++ of_stated p line arguments
-of_form p at_top line Assert arguments = of_assert p line arguments
-of_form p at_top line _ arguments = []
+abbrev pub of_form : PlainProgram → Around → ℕ → Builtin → List ℕ → List Finding
+of_form p around line Sync arguments =
+    of_top around.is_at_top line ++ of_stated p around.by_priority line arguments
+of_form p around line Assert arguments = of_assert p line arguments
+of_form p around line _ arguments = []
 
 abbrev pub of_operator : PlainProgram → ℕ → Operator → ℕ → ℕ → List Finding
 of_operator p line Divide a b = of_literals line (size p a) (size p b)
@@ -185,28 +190,29 @@ of_assigning p line assigning.Divide b = of_zero line (size p b)
 of_assigning p line assigning.Remainder b = of_zero line (size p b)
 of_assigning p line _ b = []
 
-abbrev pub of_node : PlainProgram → Bool → PlainNode → List Finding
-of_node p at_top x = elim x.form [
+abbrev pub of_node : PlainProgram → Around → PlainNode → List Finding
+of_node p around x = elim x.form [
   | method on word arguments ↦ of_method p x.line word
-  | builtin form arguments ↦ of_form p at_top x.line form arguments
+  | builtin form arguments ↦ of_form p around x.line form arguments
   | binary operator a b ↦ of_operator p x.line operator a b
   | floor_divide a b dropped ↦ of_zero x.line (size p b)
   | assign operator slot b ↦ of_assigning p x.line operator b
   | _ ↦ []
 ]
 
-abbrev pub found_in : PlainProgram → Bool → Option PlainNode → List Finding
-found_in p at_top None = []
-found_in p at_top (Some x) = of_node p at_top x
+abbrev pub found_in : PlainProgram → Around → Option PlainNode → List Finding
+found_in p around None = []
+found_in p around (Some x) = of_node p around x
 
-abbrev pub found_at : PlainProgram → ℕ → List Finding
-found_at p n = found_in p (is_at_top p n) (slice_get p.nodes n)
+abbrev pub found_at : PlainProgram → Bool → ℕ → List Finding
+found_at p by_priority n =
+    found_in p (record { is_at_top = is_at_top p n; by_priority = by_priority }) (slice_get p.nodes n)
 
 -- of the nodes below this number
-abbrev pub found_below : PlainProgram → ℕ → List Finding
-found_below p zero = []
-found_below p (suc n) = found_below p n ++ found_at p n
+abbrev pub found_below : PlainProgram → Bool → ℕ → List Finding
+found_below p by_priority zero = []
+found_below p by_priority (suc n) = found_below p by_priority n ++ found_at p by_priority n
 
--- all of them: a part is looked at before the node whose part it is
-abbrev pub findings : PlainProgram → List Finding
-findings p = found_below p (length p.nodes)
+-- all of them, under a strategy that goes by priorities or not: a part is looked at before the node whose part it is
+abbrev pub findings : PlainProgram → Bool → List Finding
+findings p by_priority = found_below p by_priority (length p.nodes)

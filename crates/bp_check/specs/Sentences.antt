@@ -85,6 +85,6 @@ finding_text x = codes "line " ++ (decimal x.line ++ (codes ": " ++ (sentence x.
 abbrev pub findings_text : List Finding → List ℕ
 findings_text xs = flat_map finding_text xs
 
--- a line for each finding, in the order of the program
-unfoldable pub check_text : PlainProgram → List ℕ
-check_text p = findings_text (findings p)
+-- a line for each finding, in the order of the program, under a strategy that goes by priorities or not
+unfoldable pub check_text : PlainProgram → Bool → List ℕ
+check_text p by_priority = findings_text (findings p by_priority)

@@ -1,6 +1,7 @@
 //! What of an accepted program will be at fault, or does other than it seems to, in words.
 #![tactic(auto)]
 
+mod around;
 mod divisions;
 mod hint;
 mod literals;

@@ -5,6 +5,7 @@ ghost use Rattle.bp_check.specs.Tops.{is_at_top as stands_at_top};
 ghost use Rattle.bp_check.specs.Findings.{of_node, found_at};
 ghost use Rattle.bp_check.specs.Sentences.{findings_text, check_text};
 
+use crate::around::Around;
 use crate::divisions::{write_assigning, write_floor, write_operator};
 use crate::methods::write_method;
 use crate::syncs::write_form;
@@ -17,17 +18,17 @@ use std::alloc::Global;
 fn write_node(
     alloc: Global,
     program: &Program,
-    is_at_top: bool,
+    around: Around,
     node: &Node,
     text: &mut String,
 ) -> Result<(), Memory>
     ensures { OnOk result (string_bytes text.new ≡ string_bytes text.old
-        ++ findings_text (of_node program.now is_at_top (plain_node node.now))) }
+        ++ findings_text (of_node program.now around (plain_node node.now))) }
 {
     match &node.form {
         NodeForm::Method(_, word, _) => write_method(alloc, program, node.line, word, text),
         NodeForm::Builtin(form, arguments) => {
-            write_form(alloc, program, is_at_top, node.line, *form, arguments, text)
+            write_form(alloc, program, around, node.line, *form, arguments, text)
         }
         NodeForm::Binary(operator, a, b) => {
             write_operator(alloc, program, node.line, *operator, *a, *b, text)
@@ -44,28 +45,33 @@ fn write_node(
 fn write_found(
     alloc: Global,
     program: &Program,
-    is_at_top: bool,
+    around: Around,
     number: u32,
     text: &mut String,
 ) -> Result<(), Memory>
     requires number { number < length program.now.nodes }
-    requires at_top { is_at_top ≡ stands_at_top program.now number }
-    ensures { OnOk result (string_bytes text.new
-        ≡ string_bytes text.old ++ findings_text (found_at program.now number)) }
+    requires at_top { around.is_at_top ≡ stands_at_top program.now number }
+    ensures { OnOk result (string_bytes text.new ≡ string_bytes text.old
+        ++ findings_text (found_at program.now around.by_priority number)) }
 {
-    write_node(alloc, program, is_at_top, program.node(number), text)
+    write_node(alloc, program, around, program.node(number), text)
 }
 
-/// What of an accepted program will be at fault, or does other than it seems to: a line for each
-/// finding, and no text exactly where nothing is found.
+/// What of an accepted program will be at fault, or does other than it seems to, under a strategy
+/// that goes by priorities or not: a line for each finding, and no text exactly where nothing is
+/// found.
 #[tactic(auto, unfolding(crate::specs::Sentences::check_text))]
-pub fn check(alloc: Global, program: &Program) -> Result<String, Memory>
-    ensures { IfOk result (λ s. string_bytes s ≡ check_text program.now) }
+pub fn check(alloc: Global, program: &Program, by_priority: bool) -> Result<String, Memory>
+    ensures { IfOk result (λ s. string_bytes s ≡ check_text program.now by_priority) }
 {
     let marks = top_marks(alloc, program)?;
     let mut text = String::new(alloc);
     for number in 0..program.nodes() {
-        write_found(alloc, program, marks[number as usize], number, &mut text)?;
+        let around = Around {
+            is_at_top: marks[number as usize],
+            by_priority,
+        };
+        write_found(alloc, program, around, number, &mut text)?;
     }
     Ok(text)
 }

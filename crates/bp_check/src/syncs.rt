@@ -7,6 +7,7 @@ ghost use Rattle.bp_meaning.specs.Statements.{is_key};
 ghost use Rattle.bp_check.specs.Findings.{one, no_statement, is_no_statement, line_in, of_key, of_statement_form, of_statement, of_priority, of_stated, of_top, of_text, of_assert, of_form};
 ghost use Rattle.bp_check.specs.Sentences.{findings_text};
 
+use crate::around::Around;
 use crate::literals::{is_absent, is_no_statement, is_no_text};
 use crate::sentences::{
     write_has_priority, write_no_key, write_no_statement, write_no_text, write_top_sync,
@@ -119,19 +120,22 @@ fn write_statement(
     write_statement_form(alloc, program, line, &program.node(number).form, text)
 }
 
-/// Writes that most strategies ignore a priority, where there is one.
+/// Writes that most strategies ignore a priority, where there is one and priorities don't count.
 fn write_priority(
     alloc: Global,
     program: &Program,
+    by_priority: bool,
     line: u32,
     more: &[u32],
     text: &mut String,
 ) -> Result<(), Memory>
-    ensures { OnOk result (string_bytes text.new
-        ≡ string_bytes text.old ++ findings_text (of_priority program.now line more.now)) }
+    ensures { OnOk result (string_bytes text.new ≡ string_bytes text.old
+        ++ findings_text (of_priority program.now by_priority line more.now)) }
 {
     match more {
-        [priority, ..] if !is_absent(program, *priority) => write_has_priority(alloc, line, text),
+        [priority, ..] if !by_priority && !is_absent(program, *priority) => {
+            write_has_priority(alloc, line, text)
+        }
         _ => Ok(()),
     }
 }
@@ -140,18 +144,19 @@ fn write_priority(
 fn write_stated(
     alloc: Global,
     program: &Program,
+    by_priority: bool,
     line: u32,
     arguments: &[u32],
     text: &mut String,
 ) -> Result<(), Memory>
-    ensures { OnOk result (string_bytes text.new
-        ≡ string_bytes text.old ++ findings_text (of_stated program.now line arguments.now)) }
+    ensures { OnOk result (string_bytes text.new ≡ string_bytes text.old
+        ++ findings_text (of_stated program.now by_priority line arguments.now)) }
 {
     let [first, more @ ..] = arguments else {
         return write_no_statement(alloc, line, text);
     };
     write_statement(alloc, program, line, *first, text)?;
-    write_priority(alloc, program, line, more, text)
+    write_priority(alloc, program, by_priority, line, more, text)
 }
 
 /// Writes that `bp.sync` stands at the top level, where it does.
@@ -208,19 +213,19 @@ fn write_assert(
 pub(crate) fn write_form(
     alloc: Global,
     program: &Program,
-    is_at_top: bool,
+    around: Around,
     line: u32,
     form: Builtin,
     arguments: &[u32],
     text: &mut String,
 ) -> Result<(), Memory>
     ensures { OnOk result (string_bytes text.new ≡ string_bytes text.old
-        ++ findings_text (of_form program.now is_at_top line form arguments.now)) }
+        ++ findings_text (of_form program.now around line form arguments.now)) }
 {
     match form {
         Builtin::Sync => {
-            write_top(alloc, is_at_top, line, text)?;
-            write_stated(alloc, program, line, arguments, text)
+            write_top(alloc, around.is_at_top, line, text)?;
+            write_stated(alloc, program, around.by_priority, line, arguments, text)
         }
         Builtin::Assert => write_assert(alloc, program, line, arguments, text),
         _ => Ok(()),

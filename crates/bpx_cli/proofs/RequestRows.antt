@@ -3,7 +3,8 @@ use Rattle.std.proofs.Common.{◌≡◌, ℕ, false, List, [], ◌∷◌, Option
 use Rattle.std.specs.Prelude.{codes}
 use Rattle.bp_log.specs.Options.{PlainOptions, default_options}
 use Rattle.bp_log.specs.Parallelism.{default_parallelism}
-use Rattle.bp_log.specs.declared.options.Strategy.TheVariants.{Ordered}
+use Rattle.bp_log.specs.declared.options.Strategy.{Strategy}
+use Rattle.bp_log.specs.declared.options.Strategy.TheVariants.{Simple, Ordered, Priority}
 use Rattle.bpx_cli.specs.declared.request.Request.{Request}
 use Rattle.bpx_cli.specs.declared.request.Request.TheVariants.{Help, Check, State, Seeds}
 use Rattle.bpx_cli.specs.Requests.{request_of}
@@ -30,8 +31,23 @@ seeds_in first count = seeds_under default_options first count
 
 -- ---- checks and help
 
-pub check : request_of (codes "check" ∷ codes "--" ∷ p ∷ []) ≡ Some (Check p)
+abbrev check_under : Strategy → Option Request
+check_under strategy = Some (Check (record { program = p; strategy = strategy }))
+
+pub check : request_of (codes "check" ∷ codes "--" ∷ p ∷ []) ≡ check_under Simple
 check = refl
+
+pub check_by_priority : request_of (codes "check" ∷ p ∷ codes "--strategy" ∷ codes "priority" ∷ []) ≡ check_under Priority
+check_by_priority = refl
+
+pub check_with_seed : request_of (codes "check" ∷ p ∷ codes "--seed=0" ∷ []) ≡ None
+check_with_seed = refl
+
+pub check_with_log : request_of (codes "check" ∷ p ∷ codes "--log=l" ∷ []) ≡ None
+check_with_log = refl
+
+pub check_two : request_of (codes "check" ∷ p ∷ p ∷ []) ≡ None
+check_two = refl
 
 pub help : request_of (codes "--help" ∷ []) ≡ Some Help
 help = refl

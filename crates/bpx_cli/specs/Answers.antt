@@ -1,5 +1,5 @@
 -- What `bpx` prints for what is asked, and how it ends.
-use Rattle.std.specs.Prelude.{◌≡◌, ◌⊎◌, ℕ, List, [], ◌∷◌, Option, Some, None}
+use Rattle.std.specs.Prelude.{◌≡◌, ◌⊎◌, ℕ, Bool, List, [], ◌∷◌, Option, Some, None}
 use Rattle.bp_base.specs.Worlds.{Holdings}
 use Rattle.bp_base.specs.Pieces.{Appends, AppendsFront}
 use Rattle.js_program.specs.PlainProgram.{PlainProgram}
@@ -10,6 +10,8 @@ use Rattle.bp_check.specs.Findings.{Finding, findings}
 use Rattle.bp_check.specs.Sentences.{check_text}
 use Rattle.bp_slips.specs.Slips.{AreSlipsOf}
 use Rattle.bp_explain.specs.Seeds.{seeds_of}
+use Rattle.bpx_cli.specs.declared.check.Check.{Check}
+use Rattle.bpx_cli.specs.CheckAsked.{is_by_priority}
 use Rattle.bpx_cli.specs.SeedsAsked.{PlainSeeds}
 use Rattle.bpx_cli.specs.declared.request.Request.{Request}
 use Rattle.bpx_cli.specs.declared.request.Request.TheVariants as request
@@ -36,21 +38,22 @@ abbrev pub checked : List Finding → Ended
 checked [] = Answered
 checked (x ∷ xs) = Found
 
--- the text that answers a check of a program, and the end
-pub record IsChecked (program : PlainProgram) (text : List ℕ) (end : Ended) : Type 0 where
-  pub says : text ≡ check_text program
-  pub ends : end ≡ checked (findings program)
+-- the text that answers a check of a program, under a strategy that goes by priorities or not, and the end
+pub record IsChecked (program : PlainProgram) (by_priority : Bool) (text : List ℕ) (end : Ended) : Type 0 where
+  pub says : text ≡ check_text program by_priority
+  pub ends : end ≡ checked (findings program by_priority)
 
 -- what is found in bytes: of an accepted program its findings, and of a refused one its slips, beside the refusal
-abbrev pub IsFoundIn : List ℕ → List ℕ → Ended → Type 0
-IsFoundIn bytes text (Refused refusal) = IsRefused bytes refusal × AreSlipsOf bytes text
-IsFoundIn bytes text end = (program : PlainProgram) × IsProgram bytes program × IsChecked program text end
+abbrev pub IsFoundIn : List ℕ → Bool → List ℕ → Ended → Type 0
+IsFoundIn bytes by_priority text (Refused refusal) = IsRefused bytes refusal × AreSlipsOf bytes text
+IsFoundIn bytes by_priority text end =
+    (program : PlainProgram) × IsProgram bytes program × IsChecked program by_priority text end
 
 -- what is found in the bytes under the name
-pub record IsCheckOf (holds : Option Holdings) (name text : List ℕ) (end : Ended) : Type 0 where
+pub record IsCheckOf (holds : Option Holdings) (asked : Check) (text : List ℕ) (end : Ended) : Type 0 where
   pub bytes : List ℕ
-  pub under : IsUnder holds name bytes
-  pub is_found : IsFoundIn bytes text end
+  pub under : IsUnder holds asked.program bytes
+  pub is_found : IsFoundIn bytes (is_by_priority asked.strategy) text end
 
 -- why the bytes of that name are not read: they are too many, or reading failed
 abbrev pub IsUnread : Option Holdings → List ℕ → Ended → Type 0
@@ -68,7 +71,7 @@ pub record AreSeedsOf (holds : Option Holdings) (asked : PlainSeeds) (text : Lis
 -- this text and this end answer what is asked
 abbrev pub Answers : Option Holdings → Request → List ℕ → Ended → Type 0
 Answers holds request.Help text end = (text ≡ HELP.now) × (end ≡ Answered)
-Answers holds (request.Check name) text end = IsCheckOf holds name text end
+Answers holds (request.Check c) text end = IsCheckOf holds c text end
 Answers holds (request.State s) text end = IsStateOf holds s text × (end ≡ Answered)
 Answers holds (request.Why w) text end = IsWhyOf holds w text × (end ≡ Answered)
 Answers holds (request.Seeds s) text end = AreSeedsOf holds s text × (end ≡ Answered)
@@ -76,7 +79,7 @@ Answers holds (request.Seeds s) text end = AreSeedsOf holds s text × (end ≡ A
 -- nothing answers it: its program is refused, its log has not what is asked about, or it was not read, or memory ran out
 abbrev pub IsUnanswered : Option Holdings → Request → Ended → Type 0
 IsUnanswered holds request.Help end = end ≡ NoMemory
-IsUnanswered holds (request.Check name) end = IsUnread holds name end
+IsUnanswered holds (request.Check c) end = IsUnread holds c.program end
 IsUnanswered holds (request.State s) end = IsUnstated holds s end
 IsUnanswered holds (request.Why w) end = IsUnexplained holds w end
 IsUnanswered holds (request.Seeds s) end = IsUnloaded holds s.program end

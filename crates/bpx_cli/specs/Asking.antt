@@ -9,7 +9,7 @@ use Rattle.bpx_cli.specs.declared.ended.Ended.TheVariants.{NoMemory}
 -- the name of the program or of the log that a request is about
 abbrev pub name_of : Request → Option (List ℕ)
 name_of request.Help = None
-name_of (request.Check program) = Some program
+name_of (request.Check asked) = Some asked.program
 name_of (request.State asked) = Some asked.log
 name_of (request.Why asked) = Some asked.log
 name_of (request.Seeds asked) = Some asked.program

@@ -1,3 +1,4 @@
+pub mod CheckAsked
 pub mod Requests
 pub mod StateAsked
 pub mod WhyAsked

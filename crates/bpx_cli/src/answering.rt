@@ -52,7 +52,7 @@ fn answer_to<R: Threads + Sync, W: World>(
             Ok(answer) => Ok(answer),
             Err(_) => Err(Ended::NoMemory),
         },
-        Request::Check(name) => check_reply(alloc, name, world),
+        Request::Check(asked) => check_reply(alloc, asked, world),
         Request::State(asked) => state_reply(alloc, asked, world),
         Request::Why(asked) => why_reply(alloc, asked, world),
         Request::Seeds(asked) => seeds_reply(rt, alloc, asked, world),

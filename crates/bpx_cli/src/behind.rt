@@ -1,22 +1,24 @@
 //! Words that are read as those of a command of `bp`.
-ghost use Rattle.std.specs.Prelude.{◌≡◌, ◌∷◌, Some, None, map, string_bytes, IfOk, IsErrOf};
+ghost use Rattle.std.specs.Prelude.{◌≡◌, ◌∷◌, ◌++◌, Some, None, map, string_bytes, IfOk, IsErrOf};
 ghost use Rattle.bp_args.specs.Command.{command_of};
 
 use bp_args::{Command, Usage};
 use js_data::Memory;
 use std::alloc::Global;
 
-/// The words with another one before them.
+/// The words with others before them.
 pub(crate) fn words_behind(
     alloc: Global,
-    first: &str,
+    before: &[&str],
     words: &[String],
 ) -> Result<Vec<String>, Memory>
     ensures { IfOk result (λ v. map string_bytes v.items
-        ≡ first.now ∷ map string_bytes words.now) }
+        ≡ map (λ w. w.now) before.now ++ map string_bytes words.now) }
 {
     let mut all = Vec::new(alloc);
-    all.push(String::from_str(alloc, first)?)?;
+    for first in before {
+        all.push(String::from_str(alloc, first)?)?;
+    }
     for word in words {
         all.push(String::from_str(alloc, word.as_str())?)?;
     }
@@ -30,6 +32,6 @@ pub(crate) fn command_behind(alloc: Global, first: &str, words: &[String]) -> Re
     ensures wrong { IsErrOf result Usage.Wrong
         → command_of (first.now ∷ map string_bytes words.now) ≡ None }
 {
-    let all = words_behind(alloc, first, words)?;
+    let all = words_behind(alloc, &[first], words)?;
     bp_args::read(alloc, all.as_slice())
 }

@@ -1,8 +1,9 @@
 //! What can be asked for, in words.
 
 /// What can be asked for.
-pub const HELP: &str = "bpx check PROGRAM
-    what of a program will be at fault, or does other than it seems to: a line for each finding
+pub const HELP: &str = "bpx check PROGRAM [--strategy NAME]
+    what of a program will be at fault, or does other than it seems to under this strategy: a line
+    for each finding. Of a program that is refused, all that is wrong in it, and what to write
 bpx state LOG [N]
     where the b-threads of the run that a log tells stand after its first N records, or after all
     of them: what each asks for, what waits in the queue, and why nothing can be selected
@@ -21,5 +22,6 @@ bpx --help
 ";
 
 /// The note of words that ask for nothing.
-pub const USAGE: &str = "usage: bpx check PROGRAM | bpx state LOG [N] | bpx why LOG N | \
+pub const USAGE: &str =
+    "usage: bpx check PROGRAM [--strategy NAME] | bpx state LOG [N] | bpx why LOG N | \
 bpx why LOG EVENT | bpx seeds PROGRAM FROM TO [OPTIONS] | bpx --help";

@@ -4,6 +4,7 @@
 mod answering;
 mod asking;
 mod behind;
+mod check;
 mod checking;
 mod ended;
 mod help;

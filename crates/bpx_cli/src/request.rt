@@ -1,13 +1,12 @@
 //! Requests, and the words that they are read from.
 ghost use Rattle.std.specs.Prelude.{◌≡◌, Some, None, map, string_bytes, IfOk, IsErrOf};
-ghost use Rattle.bpx_cli.specs.Requests.{check_asked, help_of, request_behind, request_of};
+ghost use Rattle.bpx_cli.specs.Requests.{help_of, request_behind, request_of};
 
-use crate::behind::command_behind;
+use crate::check::{Check, check_asked};
 use crate::seeds::{Seeds, seeds_asked};
 use crate::state::{State, state_asked};
 use crate::why::{Why, why_asked};
-use bp_args::{Command, Usage};
-use js_data::Text;
+use bp_args::Usage;
 use std::alloc::Global;
 
 /// What is asked for.
@@ -15,25 +14,14 @@ use std::alloc::Global;
 pub enum Request {
     /// What can be asked for.
     Help,
-    /// What of the program of this name will be at fault, or does other than it seems to.
-    Check(Text),
+    /// What of a program will be at fault, or does other than it seems to.
+    Check(Check),
     /// Where the b-threads of a run stand.
     State(State),
     /// Why an event was selected, or who requests and who blocks one where a run ends.
     Why(Why),
     /// How the runs of a program end.
     Seeds(Seeds),
-}
-
-/// The request for a check that a command of `bp` stands for.
-fn check_in(command: Command) -> Result<Request, Usage>
-    ensures request { IfOk result (λ r. check_asked (Some command) ≡ Some r) }
-    ensures wrong { IsErrOf result Usage.Wrong → check_asked (Some command) ≡ None }
-{
-    match command {
-        Command::Accept(program) => Ok(Request::Check(program)),
-        _ => Err(Usage::Wrong),
-    }
 }
 
 /// The request for help.
@@ -55,7 +43,7 @@ fn read_behind(alloc: Global, first: &str, words: &[String]) -> Result<Request, 
         → request_behind first.now (map string_bytes words.now) ≡ None }
 {
     match first {
-        "check" => check_in(command_behind(alloc, "accept", words)?),
+        "check" => Ok(Request::Check(check_asked(alloc, words)?)),
         "state" => Ok(Request::State(state_asked(alloc, words)?)),
         "why" => Ok(Request::Why(why_asked(alloc, words)?)),
         "seeds" => Ok(Request::Seeds(seeds_asked(alloc, words)?)),

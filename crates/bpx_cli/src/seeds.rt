@@ -156,6 +156,6 @@ pub(crate) fn seeds_asked(alloc: Global, words: &[String]) -> Result<Seeds, Usag
     ensures seeds { IfOk result (λ s. seeds_asked (map string_bytes words.now) ≡ Some s) }
     ensures wrong { IsErrOf result Usage.Wrong → seeds_asked (map string_bytes words.now) ≡ None }
 {
-    let said = words_behind(alloc, "--seed=0", words)?;
+    let said = words_behind(alloc, &["--seed=0"], words)?;
     seeds_in(command_behind(alloc, "run", said.as_slice())?)
 }

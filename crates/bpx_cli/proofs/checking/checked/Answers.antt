@@ -9,5 +9,5 @@ use Rattle.bpx_cli.proofs.checking.checked.Goals as goal
 pub returns : goal.returns
 returns c =
     let same = c.end_of-end.ensures ∙ ap ended_by c.as_str.ensures.value in
-    subst (λ (e : Ended). IsChecked c.args.program.now (string_bytes c.in_ok-text.text) e) (sym same)
-    (is_checked c.args.program.now (string_bytes c.in_ok-text.text) c.in_ok-text.ensures)
+    subst (λ (e : Ended). IsChecked c.args.program.now c.args.by_priority (string_bytes c.in_ok-text.text) e) (sym same)
+    (is_checked c.args.program.now c.args.by_priority (string_bytes c.in_ok-text.text) c.in_ok-text.ensures)
