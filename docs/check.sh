@@ -1,7 +1,7 @@
 #!/bin/sh
 # Looks whether the pages agree with the crates: the order of crates.txt, the headings and rows of docs/MAP.md, and the files of
 # definitions, laws and clauses, the scripts and the pages that they name; and whether the manual pages and the completions are those
-# that docs/manual.sh makes of the pages. Proves nothing and takes some seconds. Ends with a line `N passed, M failed`.
+# that docs/manual.sh makes of the pages; and whether the table of tokens is that of the crate. Proves nothing and takes some seconds. Ends with a line `N passed, M failed`.
 cd "$(dirname "$0")/.." || exit 1
 passed=0 failed=0
 room=$(mktemp -d) && trap 'rm -rf "$room"' EXIT || exit 1
@@ -99,6 +99,14 @@ says "pages: quoted definitions that no file has" "$(
     sed -n '/^```antt/,/^```$/{/^```/d;p;}' docs/*.md | sed 's/^ *//' | sort -u | while IFS= read -r line; do
         [ -z "$line" ] || grep -rqF --include=*.antt -e "$line" crates/*/specs || printf '%s\n' "$line"
     done)"
+
+# The table of tokens has the rows that `bpx check` tells.
+says "docs/LANGUAGE.md: By token has other rows than crates/bp_slips/specs/Instead" "$(
+    sed -n 's/^ *\(∷ \)\{0,1\}(codes "\(.*\)", codes "\(.*\)")$/\2 \3/p' crates/bp_slips/specs/Instead.antt | sed 's/\\"/"/g' | sort > "$room/told"
+    awk '/^### By token/ { rows = 1; next } /^#/ { rows = 0 } rows && /^\| `/ {
+        gsub(/\\\|/, "\001"); split($0, cells, "|"); gsub(/^ `|` $/, "", cells[3]); count = split(cells[2], tokens, "`")
+        for (each = 2; each <= count; each += 2) { line = tokens[each] " " cells[3]; gsub(/\001/, "|", line); print line }
+    }' docs/LANGUAGE.md | sort | diff "$room/told" - 2>&1)"
 
 # The manual pages and completions are those that the script makes of the pages.
 says "man, completions: not what \`sh docs/manual.sh\` makes" "$(
