@@ -1,3 +1,4 @@
 pub mod Mendings
 pub mod Places
 pub mod Bytes
+pub mod Once

@@ -4,4 +4,5 @@ pub mod Mistakes
 pub mod Instead
 pub mod Sentences
 pub mod Slips
+pub mod Laws
 pub mod inner

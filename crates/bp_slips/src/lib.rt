@@ -2,6 +2,7 @@
 #![tactic(auto)]
 
 mod instead;
+mod laws;
 mod looks;
 mod mending;
 mod mistake;
@@ -10,4 +11,5 @@ mod sentences;
 mod slip;
 mod spot;
 
+pub use laws::one_telling;
 pub use slip::slips;

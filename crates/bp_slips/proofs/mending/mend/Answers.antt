@@ -18,7 +18,7 @@ pub more-preserved : goal.more-preserved
 more-preserved c =
     let text : List ℕ = c.more.text.items in
     let found : IsCutting text (Flawed c.in-Flawed.wrong) =
-        subst (λ (x : List ℕ). IsCutting x (Flawed c.in-Flawed.wrong)) c.as_slice.ensures.value (subst (λ (x : Cutting). IsCutting c.as_slice.result.now x) c.in-Flawed.is c.in_ok-tokens.ensures) in
+    subst (λ (x : List ℕ). IsCutting x (Flawed c.in-Flawed.wrong)) c.as_slice.ensures.value (subst (λ (x : Cutting). IsCutting c.as_slice.result.now x) c.in-Flawed.is c.in_ok-tokens.ensures) in
     let some : 0 < c.more.left = omega (arith, c.more-test.true) in
     let next : c.in_ok-text-in-Flawed.text.items ≡ without c.in-Flawed.wrong text = c.in_ok-text-in-Flawed.ensures ∙ ap (without c.in-Flawed.wrong) c.as_slice-in-Flawed.ensures.value in
     record {
