@@ -2,3 +2,4 @@ pub mod Mendings
 pub mod Places
 pub mod Bytes
 pub mod Once
+mod Rows
