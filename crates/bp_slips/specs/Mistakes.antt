@@ -40,7 +40,7 @@ gives tokens n =
 abbrev pub is_given_below : List Token → List ℕ → ℕ → Bool
 is_given_below tokens word zero = false
 is_given_below tokens word (suc n) =
-    is_given_below tokens word n || (gives tokens n && bytes_eq word (here tokens n))
+    is_given_below tokens word n || (gives tokens n && bytes_eq (here tokens n) word)
 
 abbrev pub is_given : List Token → List ℕ → Bool
 is_given tokens word = is_given_below tokens word (length tokens)
