@@ -159,7 +159,7 @@ bpx why quiet.log '["e"]' ==> 0 ==> after record 2: end quiet 1\nevent ["e"], re
 bpx seeds quiet.js 3 7 ==> 0 ==> 5 quiet, all ended, first seed 3\n
 bpx check found.js ==> 1 ==> line 1: a priority counts under --strategy priority alone\n
 bpx check long.js ==> 2 refused: too long ==>
-bpx check unknown.js ==> 2 refused line 1: unknown x ==>
+bpx check unknown.js ==> 2 refused line 1: unknown x ==> line 1 column 1: nothing declares x\n
 bpx seeds tree.js 0 1 ==> 2 refused line 1: no tree ==>
 bpx check none.js ==> 8 read fault ==>
 bpx seeds none.js 0 1 ==> 8 read fault ==>
