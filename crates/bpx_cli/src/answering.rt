@@ -60,6 +60,7 @@ fn answer_to<R: Threads + Sync, W: World>(
 }
 
 /// Answers a request.
+#[tactic(auto, using(crate::proofs::Found::ends_as))]
 fn carry_out<R: Threads + Sync, W: World, K: Sink>(
     rt: &R,
     alloc: Global,

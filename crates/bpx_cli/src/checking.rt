@@ -52,6 +52,7 @@ fn refused(alloc: Global, bytes: &[u8], refusal: Refusal) -> Result<Reply, Memor
 }
 
 /// What is found in bytes.
+#[tactic(auto, using(crate::proofs::Found::found_of))]
 fn found_in(alloc: Global, bytes: &[u8], by_priority: bool) -> Result<Reply, Memory>
     requires { length bytes.now ≤ MOST_BYTES }
     ensures { IfOk result
