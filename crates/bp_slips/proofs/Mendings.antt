@@ -74,3 +74,7 @@ pub goes_on : (most n : ℕ) (bytes text next : List ℕ) (wrongs more : List Wr
 goes_on most n bytes text next wrongs more wrong rest h u r e k = λ ws ts m.
     let all : Mends most bytes (wrongs ++ wrong ∷ ws) ts = rest (wrong ∷ ws) ts (flawed_at n text wrong ws ts h u r (subst (λ (x : List ℕ). Mends (n - 1) x ws ts) e m)) in
     subst (λ (x : List Wrong). Mends most bytes x ts) (sym (ap (λ (xs : List Wrong). xs ++ ws) k ∙ append_assoc wrongs (wrong ∷ []) ws)) all
+
+pub ends_none : (most n : ℕ) (bytes text : List ℕ) (wrongs ws : List Wrong) (ts : List Token) → Rest most bytes wrongs n text → Mends n text [] [] → ws ≡ wrongs → ts ≡ [] → Mends most bytes ws ts
+ends_none most n bytes text wrongs ws ts rest m e k =
+    subst (λ (x : List Wrong). Mends most bytes x ts) (sym e) (subst (λ (x : List Token). Mends most bytes wrongs x) (sym k) (ends most n bytes text wrongs [] rest m))

@@ -1,5 +1,5 @@
 -- What is wrong in a text gives way to spaces, until the text is cut into tokens. So what stands behind it is read too.
-use Rattle.std.specs.Prelude.{ℕ, zero, suc, ◌+◌, nat_eq, nat_le, Bool, true, false, ◌||◌, List, [], ◌∷◌, ◌++◌, length, map, take, drop, codes, if◌then◌else◌}
+use Rattle.std.specs.Prelude.{ℕ, zero, suc, ◌+◌, nat_eq, nat_le, Bool, false, not, ◌&&◌, ◌||◌, List, [], ◌∷◌, ◌++◌, length, map, take, drop, codes, if◌then◌else◌}
 use Rattle.std.specs.Str.{IsUtf8}
 use Rattle.js_lexer.specs.declared.token.Token.{Token}
 use Rattle.js_lexer.specs.declared.token.Flaw.{Flaw}
@@ -30,12 +30,18 @@ abbrev pub rest_size : List ℕ → ℕ
 rest_size [] = 0
 rest_size (b ∷ bs) = if is_break b then 0 else suc (rest_size bs)
 
--- up to the next backtick, and it; a byte after a backslash belongs to the backslash
+-- a byte after a backslash belongs to the backslash
+abbrev pub ends_template : Bool → ℕ → Bool
+ends_template escaped b = not escaped && nat_eq b backtick
+
+abbrev pub escapes : Bool → ℕ → Bool
+escapes escaped b = not escaped && nat_eq b backslash
+
+-- up to the next backtick, and it
 abbrev pub template_size : Bool → List ℕ → ℕ
 template_size escaped [] = 0
-template_size true (b ∷ bs) = suc (template_size false bs)
-template_size false (b ∷ bs) =
-    if nat_eq b backtick then 1 else suc (template_size (nat_eq b backslash) bs)
+template_size escaped (b ∷ bs) =
+    if ends_template escaped b then 1 else suc (template_size (escapes escaped b) bs)
 
 -- a comment without an end goes to the end of the text, a text to the end of its line
 abbrev pub open_size : List ℕ → ℕ

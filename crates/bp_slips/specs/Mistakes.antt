@@ -116,14 +116,20 @@ is_none tokens n = is_unknown tokens n || is_no_form tokens n
 abbrev pub is_none_before : List Token → ℕ → ℕ → Bool
 is_none_before tokens n k = if nat_lt n k then false else is_none tokens (n - k)
 
+-- a word that is called behind a dot, and of no object that has forms
+abbrev pub is_method_word : List Token → ℕ → Bool
+is_method_word tokens n =
+    bytes_eq (before tokens n 1) (codes ".")
+    && (is_called tokens n && bytes_eq (object_of tokens n) [])
+
+-- neither a method nor a word that the text gives
+abbrev pub is_strange : List Token → ℕ → Bool
+is_strange tokens n = not (is_method (here tokens n)) && not (is_given tokens (here tokens n))
+
 -- behind what is not there itself no method is told
 abbrev pub is_no_method : List Token → ℕ → Bool
 is_no_method tokens n =
-    bytes_eq (before tokens n 1) (codes ".")
-    && (is_called tokens n
-    && (bytes_eq (object_of tokens n) []
-    && (not (is_method (here tokens n))
-    && (not (is_given tokens (here tokens n)) && not (is_none_before tokens n 2)))))
+    is_method_word tokens n && (is_strange tokens n && not (is_none_before tokens n 2))
 
 -- the first that it is
 abbrev pub mistake_at : List Token → ℕ → Option Mistake

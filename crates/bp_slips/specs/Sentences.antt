@@ -37,10 +37,10 @@ form_of object word = object ++ (codes "." ++ word)
 
 -- a form that is not called, or called and none that is; or no form
 abbrev pub no_form_words : List ℕ → List ℕ
-no_form_words form = form ++ (codes " is no form that stands so" ++ or_nothing (for_form form))
+no_form_words form = (form ++ codes " is no form that stands so") ++ or_nothing (for_form form)
 
 abbrev pub mistake_words : Mistake → List Token → ℕ → List ℕ
-mistake_words Unsupported tokens n = here tokens n ++ (codes " is not there" ++ or_nothing (for_word (here tokens n)))
+mistake_words Unsupported tokens n = (here tokens n ++ codes " is not there") ++ or_nothing (for_word (here tokens n))
 mistake_words Assigned tokens n =
     codes "an element or a field is not assigned: put(l, i, v) of lib/prelude.js, and new fields"
 mistake_words TakenApart tokens n = codes "names are taken one by one: const x = p.x, and const a = l[0]"

@@ -2,7 +2,7 @@
 ghost use Rattle.std.specs.Prelude.{◌≡◌, ◌≤◌, ◌+◌, ◌++◌, Some, IfOk, OnOk, length, map, take, drop, false, []};
 ghost use Rattle.js_lexer.specs.declared.limits.TheConstants.{MOST_BYTES};
 ghost use Rattle.js_lexer.specs.Literals.{is_break};
-ghost use Rattle.bp_slips.specs.Mending.{is_run_byte, run_size, word_size, rest_size, template_size, open_size, unsupported_size, wrong_size, blank, blanked, without, Mends};
+ghost use Rattle.bp_slips.specs.Mending.{is_run_byte, run_size, word_size, rest_size, ends_template, escapes, template_size, open_size, unsupported_size, wrong_size, blank, blanked, without, Mends};
 ghost use Rattle.bp_slips.specs.inner.Cuttings.{IsCutting, cutting_of};
 
 use js_data::Memory;
@@ -120,6 +120,20 @@ fn rest_front(bytes: &[u8]) -> usize
     size
 }
 
+/// Whether the byte ends a template.
+fn ends_template(escaped: bool, b: u8) -> bool
+    ensures { result ≡ ends_template escaped b }
+{
+    !escaped && b == b'`'
+}
+
+/// Whether the byte behind this one belongs to it.
+fn escapes(escaped: bool, b: u8) -> bool
+    ensures { result ≡ escapes escaped b }
+{
+    !escaped && b == b'\\'
+}
+
 /// How many bytes there are up to the backtick that ends a template, and it.
 fn template_front(bytes: &[u8]) -> usize
     ensures size { result ≡ template_size false bytes.now }
@@ -129,10 +143,10 @@ fn template_front(bytes: &[u8]) -> usize
     let mut escaped = false;
     for b in bytes {
         size += 1;
-        if !escaped && *b == b'`' {
+        if ends_template(escaped, *b) {
             return size;
         }
-        escaped = !escaped && *b == b'\\';
+        escaped = escapes(escaped, *b);
     }
     size
 }
@@ -241,7 +255,7 @@ fn without(alloc: Global, bytes: &[u8], wrong: Wrong) -> Result<Vec<u8>, Memory>
 
 /// What is wrong, and no tokens.
 fn without_tokens(alloc: Global, wrongs: Vec<Wrong>) -> Mended
-    ensures wrongs { result.wrongs ≡ wrongs }
+    ensures wrongs { result.wrongs.items ≡ wrongs.items }
     ensures tokens { result.tokens.items ≡ [] }
 {
     Mended {

@@ -3,7 +3,7 @@ ghost use Rattle.std.specs.Prelude.{◌≡◌, ◌+◌, ◌∷◌, [], ◌&&◌,
 ghost use Rattle.std.specs.Str.{bytes_eq};
 ghost use Rattle.std.specs.HashSet.{contains_text};
 ghost use Rattle.bp_slips.specs.Looks.{is_among};
-ghost use Rattle.bp_slips.specs.Mistakes.{declarers, openers, assignments, is_field_word, is_unsupported, is_assigned, is_taken_apart, is_named, is_pattern, object_of, is_called, is_no_form_of, is_no_form, known_names, is_given, is_unknown, is_none, is_none_before, is_no_method, mistake_at};
+ghost use Rattle.bp_slips.specs.Mistakes.{declarers, openers, assignments, is_field_word, is_unsupported, is_assigned, is_taken_apart, is_named, is_pattern, object_of, is_called, is_no_form_of, is_no_form, known_names, is_given, is_unknown, is_none, is_none_before, is_method_word, is_strange, is_no_method, mistake_at};
 
 use crate::looks::{before, behind, here, is_among, is_name, is_refused};
 use crate::names::Names;
@@ -171,16 +171,27 @@ fn is_none_before(tokens: &[Token], names: &Names, number: usize, count: usize) 
     number >= count && is_none(tokens, names, number - count)
 }
 
+/// Whether the token is a word that is called behind a dot, and of no object that has forms.
+fn is_method_word(tokens: &[Token], number: usize) -> bool
+    ensures { result ≡ is_method_word tokens.now number }
+{
+    before(tokens, number, 1) == "." && is_called(tokens, number) && object_of(tokens, number) == ""
+}
+
+/// Whether the token is neither a method nor a word that the text gives.
+fn is_strange(tokens: &[Token], names: &Names, number: usize) -> bool
+    requires { (word : List ℕ) → contains_text names.now word ≡ is_given tokens.now word }
+    ensures { result ≡ is_strange tokens.now number }
+{
+    !is_method(here(tokens, number)) && !names.contains(here(tokens, number))
+}
+
 fn is_no_method(tokens: &[Token], names: &Names, number: usize) -> bool
     requires { (word : List ℕ) → contains_text names.now word ≡ is_given tokens.now word }
     ensures { result ≡ is_no_method tokens.now number }
 {
-    let word = here(tokens, number);
-    before(tokens, number, 1) == "."
-        && is_called(tokens, number)
-        && object_of(tokens, number).is_empty()
-        && !is_method(word)
-        && !names.contains(word)
+    is_method_word(tokens, number)
+        && is_strange(tokens, names, number)
         && !is_none_before(tokens, names, number, 2)
 }
 

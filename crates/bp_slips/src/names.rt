@@ -1,6 +1,5 @@
 //! The names that a text gives.
-ghost use Rattle.std.specs.Prelude.{◌≡◌, ◌∷◌, [], ◌&&◌, ◌||◌, IfOk, OnOk, ℕ, List, codes};
-ghost use Rattle.std.specs.Str.{bytes_eq};
+ghost use Rattle.std.specs.Prelude.{◌≡◌, ◌∷◌, [], ◌&&◌, IfOk, ℕ, List, codes};
 ghost use Rattle.std.specs.HashSet.{contains_text};
 ghost use Rattle.bp_slips.specs.Looks.{is_among};
 ghost use Rattle.bp_slips.specs.Mistakes.{declarers, name_openers, name_closers, gives, is_given};
@@ -45,18 +44,7 @@ fn gives(tokens: &[Token], number: usize) -> bool
     declares(opener) || is_behind_name(closer) || is_parameter(opener, closer)
 }
 
-/// Takes a name among the others.
-fn take(alloc: Global, name: &str, names: &mut Names) -> Result<(), Memory>
-    ensures { OnOk result ((word : List ℕ) → contains_text names.new word
-        ≡ (contains_text names.old word || bytes_eq name.now word)) }
-{
-    let key = String::from_str(alloc, name)?;
-    names.insert(key)?;
-    Ok(())
-}
-
 /// The names that the tokens give.
-#[tactic(auto, using(crate::proofs::Givens::given_here, crate::proofs::Givens::given_not))]
 pub(crate) fn names_of(alloc: Global, tokens: &[Token]) -> Result<Names, Memory>
     ensures { IfOk result
         (λ names. (word : List ℕ) → contains_text names word ≡ is_given tokens.now word) }
@@ -64,7 +52,7 @@ pub(crate) fn names_of(alloc: Global, tokens: &[Token]) -> Result<Names, Memory>
     let mut names = HashSet::new(alloc);
     for number in 0..tokens.len() {
         if gives(tokens, number) {
-            take(alloc, here(tokens, number), &mut names)?;
+            names.insert(String::from_str(alloc, here(tokens, number))?)?;
         }
     }
     Ok(names)

@@ -54,7 +54,7 @@ fn push_instead(instead: Option<&str>, text: &mut String) -> Result<(), Memory>
 /// That a word or a mark is not there.
 fn unsupported(alloc: Global, word: &str) -> Result<String, Memory>
     ensures { IfOk result (λ s. string_bytes s
-        ≡ word.now ++ (codes " is not there" ++ or_nothing (for_word word.now))) }
+        ≡ (word.now ++ codes " is not there") ++ or_nothing (for_word word.now)) }
 {
     let mut text = String::from_str(alloc, word)?;
     text.push_str(" is not there")?;

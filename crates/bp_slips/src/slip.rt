@@ -59,7 +59,6 @@ fn push_slip(
 }
 
 /// The slips that tokens are.
-#[tactic(auto, using(crate::proofs::Givens::slips_more))]
 fn token_slips(alloc: Global, tokens: &[Token]) -> Result<Vec<Slip>, Memory>
     ensures { IfOk result (λ v. v.items ≡ slips_below tokens.now (length tokens.now)) }
 {

@@ -1,5 +1,5 @@
 //! Lines and columns of places.
-ghost use Rattle.std.specs.Prelude.{◌≡◌, ◌≤◌, ◌<◌, length};
+ghost use Rattle.std.specs.Prelude.{◌≡◌, ◌≤◌, ◌<◌, ◌+◌, length};
 ghost use Rattle.js_lexer.specs.declared.limits.TheConstants.{MOST_BYTES};
 ghost use Rattle.js_lexer.specs.Gaps.{ends_line, line_of};
 ghost use Rattle.bp_slips.specs.Slips.{is_inner, column_behind, column_of};

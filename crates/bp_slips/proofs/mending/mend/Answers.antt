@@ -1,10 +1,10 @@
 use Rattle.std.proofs.Common.{◌≡◌, ◌∙◌, ◌<◌, ◌++◌, ℕ, List, [], length, ap, subst, arith}
 use Rattle.bp_slips.specs.declared.mending.Cutting.{Cutting}
-use Rattle.bp_slips.specs.declared.mending.Cutting.TheVariants.{Whole, Flawed}
+use Rattle.bp_slips.specs.declared.mending.Cutting.TheVariants.{Whole, Flawed, NoText}
 use Rattle.bp_slips.specs.declared.mending.TheConstants.{MOST_WRONGS}
 use Rattle.bp_slips.specs.Mending.{without, wrong_size, Mends}
 use Rattle.bp_slips.specs.inner.Cuttings.{IsCutting}
-use Rattle.bp_slips.proofs.Mendings.{whole_at, ends, goes_on, same_length}
+use Rattle.bp_slips.proofs.Mendings.{whole_at, no_text_at, many_at, ends, ends_none, goes_on, same_length}
 use Rattle.bp_slips.proofs.mending.mend.Goals as goal
 
 pub returns-in-Whole : goal.returns-in-Whole
@@ -25,3 +25,17 @@ more-preserved c =
       rest = goes_on MOST_WRONGS c.more.left c.args.bytes.now text _ c.more.wrongs.items _ c.in-Flawed.wrong c.more.invariant.rest some found.0 found.1 next c.in_ok-push-in-Flawed.ensures.items;
       many = ap length next ∙ same_length text c.in-Flawed.wrong.place _ ∙ c.more.invariant.many;
     }
+
+pub returns-in-NoText : goal.returns-in-NoText
+returns-in-NoText c =
+    let found : IsCutting c.as_slice.result.now NoText = subst (λ (x : Cutting). IsCutting c.as_slice.result.now x) c.in-NoText.is c.in_ok-tokens.ensures in
+    let some : 0 < c.more.left = omega (arith, c.more-test.true) in
+    ends_none MOST_WRONGS c.more.left c.args.bytes.now c.more.text.items c.more.wrongs.items _ _ c.more.invariant.rest
+    (subst (λ (x : List ℕ). Mends c.more.left x [] []) c.as_slice.ensures.value (no_text_at c.more.left c.as_slice.result.now some found))
+    c.without_tokens.ensures.wrongs c.without_tokens.ensures.tokens
+
+pub returns : goal.returns
+returns c =
+    let none : c.more.left ≡ 0 = omega (arith, c.more-test.false) in
+    ends_none MOST_WRONGS c.more.left c.args.bytes.now c.more.text.items c.more.wrongs.items _ _ c.more.invariant.rest (many_at c.more.left c.more.text.items none)
+    c.without_tokens-2.ensures.wrongs c.without_tokens-2.ensures.tokens
