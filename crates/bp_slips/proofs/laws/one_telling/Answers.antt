@@ -1,5 +1,4 @@
 use Rattle.bp_slips.proofs.Once.{one_telling}
-use Rattle.bp_slips.proofs.Rows.{told_in_order}
 use Rattle.bp_slips.proofs.laws.one_telling.Goals as goal
 
 pub returns : goal.returns
