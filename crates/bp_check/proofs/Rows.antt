@@ -65,15 +65,40 @@ pub four_keys : found (slot 0 ∷ one (p.fields (codes "request" ∷ codes "wait
     ∷ one (p.fields [] []) ∷ one (p.builtin form.Sync (3 ∷ [])) ∷ []) ≡ []
 four_keys = refl
 
--- bp.sync({waitfor: x, request: x, Block: x}) on line 2, with values on the lines 3, 4 and 5
+-- bp.sync({waitfor: null, request: null, Block: null}) on line 2, with values on the lines 3, 4 and 5
 pub wrong_keys : found (on 3 p.null ∷ on 4 p.null ∷ on 5 p.null ∷ on 2 (p.fields (codes "waitfor" ∷ codes "request" ∷ codes "Block" ∷ []) (0 ∷ 1 ∷ 2 ∷ [])) ∷ on 2 (p.builtin form.Sync (3 ∷ [])) ∷ [])
-    ≡ at 3 (f.no_key (codes "waitfor")) ∷ at 5 (f.no_key (codes "Block")) ∷ []
+    ≡ at 3 (f.no_key (codes "waitfor")) ∷ at 4 f.no_set ∷ at 5 (f.no_key (codes "Block")) ∷ []
 wrong_keys = refl
 
--- fields that are given to nothing, to another form, or as the priority, and fields in fields, state nothing
+-- fields that are given to nothing, to another form, or as the priority state nothing; as a request they are no set
 pub other_fields : found (slot 0 ∷ one (p.fields (codes "to" ∷ []) (0 ∷ [])) ∷ one (p.builtin form.Event (0 ∷ 1 ∷ [])) ∷ one (p.fields (codes "request" ∷ []) (1 ∷ []))
-    ∷ one (p.builtin form.Sync (3 ∷ [])) ∷ one (p.builtin form.Sync (0 ∷ 1 ∷ [])) ∷ []) ≡ at 1 f.has_priority ∷ []
+    ∷ one (p.builtin form.Sync (3 ∷ [])) ∷ one (p.builtin form.Sync (0 ∷ 1 ∷ [])) ∷ []) ≡ at 1 f.no_set ∷ at 1 f.has_priority ∷ []
 other_fields = refl
+
+-- bp.sync({waitFor: x}) of an x on line 6 that is written so
+abbrev waited : PlainNodeForm → List Finding
+waited x = found (on 6 x ∷ on 5 (p.fields (codes "waitFor" ∷ []) (0 ∷ [])) ∷ on 5 (p.builtin form.Sync (1 ∷ [])) ∷ [])
+
+pub no_sets :
+    map waited (p.number (pos 1) ∷ p.text (codes "hot") ∷ p.truth true ∷ p.null ∷ p.fields [] [] ∷ p.floor_divide 0 0 [] ∷ p.function 0 ∷ p.unary Not 0 ∷ [])
+    ≡ map (λ (x : Kind). at 6 x ∷ []) (f.no_set ∷ f.no_set ∷ f.no_set ∷ f.no_set ∷ f.no_set ∷ f.no_set ∷ f.no_set ∷ f.no_set ∷ [])
+no_sets = refl
+
+-- undefined is as if absent, and lists, forms and variables may be sets
+pub maybe_sets : map waited (p.undefined ∷ p.list [] ∷ p.builtin form.Event [] ∷ p.builtin form.All [] ∷ p.read (Slot 0) ∷ p.method 0 (codes "negate") [] ∷ [])
+    ≡ [] ∷ [] ∷ [] ∷ [] ∷ [] ∷ [] ∷ []
+maybe_sets = refl
+
+-- "abc".length on line 2, and other members, of other values
+pub lengths :
+    found (one (p.text (codes "abc")) ∷ on 2 (p.member 0 (codes "length")) ∷ one (p.member 0 (codes "name")) ∷ one (p.list []) ∷ one (p.member 3 (codes "length")) ∷ slot 0 ∷ one (p.member 5 (codes "length")) ∷ [])
+    ≡ at 2 f.no_length ∷ []
+lengths = refl
+
+-- bp.log.info(), bp.log.info(1), and bp.log.info(1, 1) on line 3
+pub logged : found (whole 1 ∷ one (p.builtin form.LogInfo []) ∷ one (p.builtin form.LogInfo (0 ∷ [])) ∷ on 3 (p.builtin form.LogInfo (0 ∷ 0 ∷ [])) ∷ [])
+    ≡ at 3 f.too_many ∷ []
+logged = refl
 
 -- bp.sync(), and bp.sync(x) of an x that is written so
 abbrev stated : PlainNodeForm → List Finding

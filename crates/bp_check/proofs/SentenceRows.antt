@@ -47,7 +47,8 @@ hint_of_none_near = refl
 pub told_of_findings :
     findings_text
     (record { line = 1; kind = f.no_method (codes "push") } ∷ record { line = 20; kind = f.no_statement } ∷ record { line = 3; kind = f.no_key (codes "wait\"for") } ∷ record { line = 4; kind = f.no_text }
-    ∷ record { line = 5; kind = f.top_sync } ∷ record { line = 6; kind = f.has_rest } ∷ record { line = 7; kind = f.by_zero } ∷ record { line = 8; kind = f.has_priority } ∷ [])
+    ∷ record { line = 5; kind = f.top_sync } ∷ record { line = 6; kind = f.has_rest } ∷ record { line = 7; kind = f.by_zero } ∷ record { line = 8; kind = f.has_priority }
+    ∷ record { line = 9; kind = f.no_set } ∷ record { line = 10; kind = f.no_length } ∷ record { line = 11; kind = f.too_many } ∷ [])
     ≡ codes "line 1: nothing has a method push: concat makes a longer list\n"
     ++ codes "line 20: bp.sync has no statement\n"
     ++ codes "line 3: a statement has no key \"wait\\\"for\": it has request, waitFor, block and interrupt\n"
@@ -56,5 +57,8 @@ pub told_of_findings :
     ++ codes "line 6: this division leaves a rest: Math.floor(a / b) rounds down\n"
     ++ codes "line 7: this divides by zero\n"
     ++ codes "line 8: a priority counts under --strategy priority alone\n"
+    ++ codes "line 9: this is no event, no set and no list of them\n"
+    ++ codes "line 10: a text has no length: letters(s).length of lib/prelude.js\n"
+    ++ codes "line 11: bp.log.info prints one value: \"n \" + n\n"
 unfolding hint told digits
 told_of_findings = refl

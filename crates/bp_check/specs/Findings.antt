@@ -1,5 +1,5 @@
 -- What of an accepted program will be at fault, or does other than it seems to.
-use Rattle.std.specs.Prelude.{ℕ, ℤ, pos, negsuc, zero, suc, ◌%◌, Bool, true, false, ◌||◌, nat_eq, List, [], ◌∷◌, ◌++◌, length, flat_map, slice_get, Option, Some, None, if◌then◌else◌}
+use Rattle.std.specs.Prelude.{ℕ, ℤ, pos, negsuc, zero, suc, ◌%◌, Bool, true, false, ◌&&◌, ◌||◌, codes, nat_eq, List, [], ◌∷◌, ◌++◌, length, flat_map, slice_get, Option, Some, None, if◌then◌else◌}
 use Rattle.std.specs.List.{list_any, zip}
 use Rattle.std.specs.Str.{bytes_eq}
 use Rattle.js_tree.specs.declared.tree.Sign.TheVariants.{Minus, Plus}
@@ -8,8 +8,8 @@ use Rattle.js_tree.specs.declared.tree.Operator.TheVariants.{Divide, Remainder}
 use Rattle.js_tree.specs.declared.tree.AssignOp.{AssignOp}
 use Rattle.js_tree.specs.declared.tree.AssignOp.TheVariants as assigning
 use Rattle.js_program.specs.declared.builtin.Builtin.{Builtin}
-use Rattle.js_program.specs.declared.builtin.Builtin.TheVariants.{Sync, Assert}
-use Rattle.js_program.specs.PlainProgram.{PlainNodeForm, number, text, truth, null, undefined, list, fields, method, builtin, floor_divide, unary, binary, assign, function, PlainNode, PlainProgram}
+use Rattle.js_program.specs.declared.builtin.Builtin.TheVariants.{Sync, Assert, LogInfo}
+use Rattle.js_program.specs.PlainProgram.{PlainNodeForm, number, text, truth, null, undefined, list, fields, member, method, builtin, floor_divide, unary, binary, assign, function, PlainNode, PlainProgram}
 use Rattle.bp_meaning.specs.Statements.{is_key}
 use Rattle.bp_check.specs.Words.{is_method}
 use Rattle.bp_check.specs.Tops.{is_at_top}
@@ -31,6 +31,12 @@ pub data Kind : Type 0 where
   by_zero : Kind
   -- all strategies but one ignore it
   has_priority : Kind
+  -- the value of a key of a statement is no event, no set and no list
+  no_set : Kind
+  -- `length` of a text
+  no_length : Kind
+  -- `bp.log.info` prints one value
+  too_many : Kind
 
 -- with the line on which it stands
 pub record Finding : Type 0 where
@@ -79,6 +85,18 @@ abbrev pub is_no_statement : PlainNodeForm → Bool
 is_no_statement (text t) = true
 is_no_statement form = is_neither form
 
+-- what is written so is neither an event nor a set nor a list; `undefined` is as if nothing stood there
+abbrev pub is_no_set : PlainNodeForm → Bool
+is_no_set (number z) = true
+is_no_set (truth b) = true
+is_no_set null = true
+is_no_set (text t) = true
+is_no_set (fields keys values) = true
+is_no_set (function f) = true
+is_no_set (unary sign n) = true
+is_no_set (floor_divide a b dropped) = true
+is_no_set _ = false
+
 -- `undefined` is as if nothing stood there
 abbrev pub is_absent : Option PlainNode → Bool
 is_absent None = true
@@ -90,10 +108,14 @@ abbrev pub line_in : Option PlainNode → ℕ
 line_in None = 0
 line_in (Some x) = x.line
 
+abbrev pub of_value : Option PlainNode → List Finding
+of_value None = []
+of_value (Some x) = if is_no_set x.form then one x.line no_set else []
+
 -- a key is told on the line of its value
 abbrev pub of_key : PlainProgram → List ℕ × ℕ → List Finding
 of_key p k =
-    if is_key k.0 then [] else one (line_in (slice_get p.nodes k.1)) (no_key k.0)
+    if is_key k.0 then of_value (slice_get p.nodes k.1) else one (line_in (slice_get p.nodes k.1)) (no_key k.0)
 
 abbrev pub of_statement_form : PlainProgram → ℕ → PlainNodeForm → List Finding
 of_statement_form p line (fields keys values) = flat_map (of_key p) (zip keys values)
@@ -127,6 +149,20 @@ of_text line (Some x) = if is_no_text x.form then one line no_text else []
 abbrev pub of_assert : PlainProgram → ℕ → List ℕ → List Finding
 of_assert p line (c ∷ n ∷ dropped) = of_text line (slice_get p.nodes n)
 of_assert p line _ = one line no_text
+
+-- ---- what is dropped, and what a text has not
+
+abbrev pub of_log : ℕ → List ℕ → List Finding
+of_log line (n ∷ dropped ∷ more) = one line too_many
+of_log line _ = []
+
+abbrev pub is_text : Option PlainNode → Bool
+is_text None = false
+is_text (Some x) = elim x.form [ text t ↦ true | _ ↦ false ]
+
+abbrev pub of_member : PlainProgram → ℕ → ℕ → List ℕ → List Finding
+of_member p line on word =
+    if bytes_eq word (codes "length") && is_text (slice_get p.nodes on) then one line no_length else []
 
 -- ---- divisions
 
@@ -178,6 +214,7 @@ abbrev pub of_form : PlainProgram → Around → ℕ → Builtin → List ℕ �
 of_form p around line Sync arguments =
     of_top around.is_at_top line ++ of_stated p around.by_priority line arguments
 of_form p around line Assert arguments = of_assert p line arguments
+of_form p around line LogInfo arguments = of_log line arguments
 of_form p around line _ arguments = []
 
 abbrev pub of_operator : PlainProgram → ℕ → Operator → ℕ → ℕ → List Finding
@@ -193,6 +230,7 @@ of_assigning p line _ b = []
 abbrev pub of_node : PlainProgram → Around → PlainNode → List Finding
 of_node p around x = elim x.form [
   | method on word arguments ↦ of_method p x.line word
+  | member on word ↦ of_member p x.line on word
   | builtin form arguments ↦ of_form p around x.line form arguments
   | binary operator a b ↦ of_operator p x.line operator a b
   | floor_divide a b dropped ↦ of_zero x.line (size p b)

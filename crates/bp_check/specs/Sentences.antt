@@ -78,6 +78,9 @@ sentence f.top_sync = codes "bp.sync stops a b-thread, and the top level is none
 sentence f.has_rest = codes "this division leaves a rest: Math.floor(a / b) rounds down"
 sentence f.by_zero = codes "this divides by zero"
 sentence f.has_priority = codes "a priority counts under --strategy priority alone"
+sentence f.no_set = codes "this is no event, no set and no list of them"
+sentence f.no_length = codes "a text has no length: letters(s).length of lib/prelude.js"
+sentence f.too_many = codes "bp.log.info prints one value: \"n \" + n"
 
 abbrev pub finding_text : Finding → List ℕ
 finding_text x = codes "line " ++ (decimal x.line ++ (codes ": " ++ (sentence x.kind ++ codes "\n")))

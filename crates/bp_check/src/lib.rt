@@ -5,6 +5,7 @@ mod around;
 mod divisions;
 mod hint;
 mod literals;
+mod members;
 mod methods;
 mod nodes;
 mod sentences;

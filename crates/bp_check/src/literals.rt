@@ -1,7 +1,7 @@
 //! What is written so that each run makes a value of one kind of it.
 ghost use Rattle.std.specs.Prelude.{◌≡◌, slice_get};
 ghost use Rattle.js_program.specs.Views.{plain_node_form};
-ghost use Rattle.bp_check.specs.Findings.{is_neither, is_no_text, is_no_statement, is_absent};
+ghost use Rattle.bp_check.specs.Findings.{is_neither, is_no_text, is_no_statement, is_no_set, is_text, is_absent};
 
 use js_program::{NodeForm, Program};
 
@@ -40,6 +40,33 @@ pub(crate) fn is_no_statement(form: &NodeForm) -> bool
         NodeForm::Text(_) => true,
         _ => is_neither(form),
     }
+}
+
+/// Whether what is written so is neither an event nor a set nor a list.
+pub(crate) fn is_no_set(form: &NodeForm) -> bool
+    ensures { result ≡ is_no_set (plain_node_form form.now) }
+{
+    matches!(
+        form,
+        NodeForm::Number(_)
+            | NodeForm::Truth(_)
+            | NodeForm::Null
+            | NodeForm::Text(_)
+            | NodeForm::Fields(_, _)
+            | NodeForm::Function(_)
+            | NodeForm::Unary(_, _)
+            | NodeForm::FloorDivide(_, _, _)
+    )
+}
+
+/// Whether a node is a text, written so.
+pub(crate) fn is_text(program: &Program, number: u32) -> bool
+    ensures { result ≡ is_text (slice_get program.now.nodes number) }
+{
+    if number >= program.nodes() {
+        return false;
+    }
+    matches!(&program.node(number).form, NodeForm::Text(_))
 }
 
 /// Whether a node is as if nothing stood there, or there is none of this number.

@@ -7,6 +7,7 @@ ghost use Rattle.bp_check.specs.Sentences.{findings_text, check_text};
 
 use crate::around::Around;
 use crate::divisions::{write_assigning, write_floor, write_operator};
+use crate::members::write_member;
 use crate::methods::write_method;
 use crate::syncs::write_form;
 use crate::tops::top_marks;
@@ -27,6 +28,7 @@ fn write_node(
 {
     match &node.form {
         NodeForm::Method(_, word, _) => write_method(alloc, program, node.line, word, text),
+        NodeForm::Member(on, word) => { write_member(alloc, program, node.line, *on, word, text) }
         NodeForm::Builtin(form, arguments) => {
             write_form(alloc, program, around, node.line, *form, arguments, text)
         }

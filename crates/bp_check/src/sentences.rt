@@ -129,3 +129,42 @@ pub(crate) fn write_has_priority(alloc: Global, line: u32, text: &mut String) ->
         text,
     )
 }
+
+/// Writes that the value of a key is no event, no set and no list.
+pub(crate) fn write_no_set(alloc: Global, line: u32, text: &mut String) -> Result<(), Memory>
+    ensures { OnOk result (string_bytes text.new
+        ≡ string_bytes text.old ++ findings_text (one line f.no_set)) }
+{
+    write_plain(
+        alloc,
+        line,
+        "this is no event, no set and no list of them",
+        text,
+    )
+}
+
+/// Writes that a text has no length.
+pub(crate) fn write_no_length(alloc: Global, line: u32, text: &mut String) -> Result<(), Memory>
+    ensures { OnOk result (string_bytes text.new
+        ≡ string_bytes text.old ++ findings_text (one line f.no_length)) }
+{
+    write_plain(
+        alloc,
+        line,
+        "a text has no length: letters(s).length of lib/prelude.js",
+        text,
+    )
+}
+
+/// Writes that `bp.log.info` prints one value.
+pub(crate) fn write_too_many(alloc: Global, line: u32, text: &mut String) -> Result<(), Memory>
+    ensures { OnOk result (string_bytes text.new
+        ≡ string_bytes text.old ++ findings_text (one line f.too_many)) }
+{
+    write_plain(
+        alloc,
+        line,
+        "bp.log.info prints one value: \"n \" + n",
+        text,
+    )
+}

@@ -4,13 +4,14 @@ ghost use Rattle.std.specs.List.{zip};
 ghost use Rattle.std.specs.Arc.{arc_value};
 ghost use Rattle.js_program.specs.Views.{plain_node_form};
 ghost use Rattle.bp_meaning.specs.Statements.{is_key};
-ghost use Rattle.bp_check.specs.Findings.{one, no_statement, is_no_statement, line_in, of_key, of_statement_form, of_statement, of_priority, of_stated, of_top, of_text, of_assert, of_form};
+ghost use Rattle.bp_check.specs.Findings.{one, no_statement, is_no_statement, line_in, of_value, of_key, of_statement_form, of_statement, of_priority, of_stated, of_top, of_text, of_assert, of_log, of_form};
 ghost use Rattle.bp_check.specs.Sentences.{findings_text};
 
 use crate::around::Around;
-use crate::literals::{is_absent, is_no_statement, is_no_text};
+use crate::literals::{is_absent, is_no_set, is_no_statement, is_no_text};
 use crate::sentences::{
-    write_has_priority, write_no_key, write_no_statement, write_no_text, write_top_sync,
+    write_has_priority, write_no_key, write_no_set, write_no_statement, write_no_text,
+    write_too_many, write_top_sync,
 };
 use js_data::{Memory, Text};
 use js_program::{Builtin, NodeForm, Program};
@@ -35,7 +36,28 @@ fn line_of(program: &Program, number: u32) -> u32
     }
 }
 
-/// Writes that a statement has no such key, where that is so.
+/// Writes that the value of a key is no event, no set and no list, where that is so.
+fn write_value(
+    alloc: Global,
+    program: &Program,
+    number: u32,
+    text: &mut String,
+) -> Result<(), Memory>
+    ensures { OnOk result (string_bytes text.new ≡ string_bytes text.old
+        ++ findings_text (of_value (slice_get program.now.nodes number))) }
+{
+    if number >= program.nodes() {
+        return Ok(());
+    }
+    let node = program.node(number);
+    if is_no_set(&node.form) {
+        write_no_set(alloc, node.line, text)
+    } else {
+        Ok(())
+    }
+}
+
+/// Writes what is found of a key of a statement and its value.
 fn write_key(
     alloc: Global,
     program: &Program,
@@ -47,7 +69,7 @@ fn write_key(
         ≡ string_bytes text.old ++ findings_text (of_key program.now (key.now, value))) }
 {
     if is_key(key.as_str()) {
-        return Ok(());
+        return write_value(alloc, program, value, text);
     }
     write_no_key(alloc, line_of(program, value), key, text)
 }
@@ -209,6 +231,17 @@ fn write_assert(
     }
 }
 
+/// Writes that `bp.log.info` prints one value, where it has more.
+fn write_log(alloc: Global, line: u32, arguments: &[u32], text: &mut String) -> Result<(), Memory>
+    ensures { OnOk result (string_bytes text.new
+        ≡ string_bytes text.old ++ findings_text (of_log line arguments.now)) }
+{
+    match arguments {
+        [_, _, ..] => write_too_many(alloc, line, text),
+        _ => Ok(()),
+    }
+}
+
 /// Writes what is found of a form of `bp`.
 pub(crate) fn write_form(
     alloc: Global,
@@ -228,6 +261,7 @@ pub(crate) fn write_form(
             write_stated(alloc, program, around.by_priority, line, arguments, text)
         }
         Builtin::Assert => write_assert(alloc, program, line, arguments, text),
+        Builtin::LogInfo => write_log(alloc, line, arguments, text),
         _ => Ok(()),
     }
 }
