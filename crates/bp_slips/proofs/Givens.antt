@@ -4,7 +4,6 @@ use Rattle.std.specs.Str.{bytes_eq}
 use Rattle.js_lexer.specs.declared.token.Token.{Token}
 use Rattle.bp_slips.specs.Looks.{here}
 use Rattle.bp_slips.specs.Mistakes.{gives, is_given_below}
-use Rattle.bp_slips.specs.declared.slip.Slip.{Slip}
 use Rattle.bp_slips.specs.Slips.{slips_at, slips_below}
 use Rattle.std.specs.Prelude.{◌++◌}
 

@@ -1,5 +1,5 @@
 -- Texts without what is wrong in them.
-use Rattle.std.proofs.Common.{◌≡◌, ◌∙◌, ℕ, zero, suc, ◌+◌, ◌-◌, ◌<◌, List, [], ◌∷◌, ◌++◌, length, map, take, drop, refl, sym, ap, subst, arith, append-nil, append_assoc, Option, Some, None}
+use Rattle.std.proofs.Common.{◌≡◌, ◌∙◌, ℕ, zero, suc, ◌+◌, ◌-◌, ◌<◌, List, [], ◌∷◌, ◌++◌, length, map, take, drop, sym, ap, subst, arith, append-nil, append_assoc, Option, Some}
 use Rattle.std.specs.Prelude.{IfSome}
 use Rattle.std.proofs.lemmas.List.{length-append, length-map, take-append-drop}
 use Rattle.std.specs.Str.{IsUtf8}
@@ -10,7 +10,6 @@ use Rattle.js_lexer.specs.declared.token.LexFault.TheVariants as fault
 use Rattle.js_lexer.specs.Lexed.{IsRefusal}
 use Rattle.bp_slips.specs.declared.mending.Wrong.{Wrong}
 use Rattle.bp_slips.specs.declared.mending.Cutting.{Cutting}
-use Rattle.bp_slips.specs.declared.mending.Cutting.TheVariants.{Whole, Flawed, NoText}
 use Rattle.bp_slips.specs.inner.Cuttings.{IsCutting, cutting_of}
 use Rattle.bp_slips.specs.Mending.{blank, blanked, without, Mends, whole, flawed, many, no_text}
 

@@ -1,5 +1,5 @@
 -- A text is mended in one way.
-use Rattle.std.proofs.Common.{◌≡◌, ◌∙◌, ℕ, List, [], ◌∷◌, refl, sym, ap, subst}
+use Rattle.std.proofs.Common.{◌≡◌, ◌∙◌, ℕ, List, ◌∷◌, refl, sym, ap, subst}
 use Rattle.js_lexer.specs.declared.token.Flaw.{Flaw}
 use Rattle.js_lexer.specs.declared.token.Token.{Token}
 use Rattle.js_lexer.proofs.Cutting.{one_cutting, one_refusal, never_both}
@@ -7,7 +7,7 @@ use Rattle.std.specs.Prelude.{take}
 use Rattle.bp_slips.specs.declared.mending.Wrong.{Wrong}
 use Rattle.bp_slips.specs.declared.slip.TheConstants.{MOST_SLIPS}
 use Rattle.bp_slips.specs.Mending.{without, Mends, whole, flawed, many, no_text}
-use Rattle.bp_slips.specs.Slips.{slips_text, all_slips, AreSlipsOf}
+use Rattle.bp_slips.specs.Slips.{slips_text, all_slips}
 use Rattle.bp_slips.specs.Laws.{OneTelling}
 
 same_wrong : (a b : Wrong) → a.flaw ≡ b.flaw → a.place ≡ b.place → a ≡ b

@@ -1,5 +1,5 @@
 -- Columns, byte after byte.
-use Rattle.std.proofs.Common.{◌≡◌, ℕ, zero, suc, ◌+◌, ◌-◌, ◌<◌, List, [], ◌∷◌, length, refl, arith}
+use Rattle.std.proofs.Common.{◌≡◌, ℕ, zero, suc, ◌-◌, ◌<◌, List, [], ◌∷◌, length, refl, arith}
 use Rattle.bp_slips.specs.Slips.{column_behind, column_from}
 
 pub column_step : (column n b : ℕ) (rest bs : List ℕ) → rest ≡ b ∷ bs → 0 < n → column_from column n rest ≡ column_from (column_behind column rest) (n - 1) bs

@@ -1,21 +1,21 @@
 -- The definitions computed at texts and tokens that were worked out by hand.
-use Rattle.std.proofs.Common.{◌≡◌, ℕ, zero, suc, ◌+◌, true, false, Bool, List, [], ◌∷◌, ◌++◌, map, refl}
-use Rattle.std.specs.Prelude.{Option, Some, None, codes, pos, flat_map, IfSome}
+use Rattle.std.proofs.Common.{◌≡◌, ℕ, suc, ◌+◌, false, List, [], ◌∷◌, ◌++◌, map, refl}
+use Rattle.std.specs.Prelude.{Option, Some, None, codes, pos}
 use Rattle.std.specs.Fmt.{digits}
 use Rattle.js_lexer.specs.declared.token.Kind.{Kind}
-use Rattle.js_lexer.specs.declared.token.Kind.TheVariants.{Name, Keyword, Number, Text, Mark}
+use Rattle.js_lexer.specs.declared.token.Kind.TheVariants.{Name, Keyword, Number, Mark}
 use Rattle.js_lexer.specs.declared.token.Token.{Token}
 use Rattle.js_lexer.specs.declared.token.Flaw.TheVariants as flaw
 use Rattle.js_lexer.specs.Sorts.{kind_sort}
 use Rattle.js_grammar.specs.Sorts.{sort}
-use Rattle.bp_check.specs.Sentences.{hint, told, nearest}
+use Rattle.bp_check.specs.Sentences.{hint, told}
 use Rattle.bp_slips.specs.declared.mistake.Mistake.{Mistake}
 use Rattle.bp_slips.specs.declared.mistake.Mistake.TheVariants as m
 use Rattle.bp_slips.specs.Instead.{for_word, for_name, for_form}
 use Rattle.bp_slips.specs.Mending.{wrong_size, without}
-use Rattle.bp_slips.specs.Mistakes.{gives, mistake_at}
-use Rattle.bp_slips.specs.Sentences.{mistake_words, wrong_words}
-use Rattle.bp_slips.specs.Slips.{column_of, slip, slip_text, all_slips, slips_text}
+use Rattle.bp_slips.specs.Mistakes.{mistake_at}
+use Rattle.bp_slips.specs.Sentences.{mistake_words}
+use Rattle.bp_slips.specs.Slips.{column_of, all_slips, slips_text}
 
 -- ---- what gives way
 

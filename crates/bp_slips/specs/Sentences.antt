@@ -1,10 +1,9 @@
 -- Each mistake in one sentence.
-use Rattle.std.specs.Prelude.{ℕ, nat_eq, List, [], ◌∷◌, ◌++◌, drop, not, codes, is_some, Bool, true, Option, Some, None, if◌then◌else◌}
+use Rattle.std.specs.Prelude.{ℕ, nat_eq, List, [], ◌∷◌, ◌++◌, not, codes, Option, Some, None, if◌then◌else◌}
 use Rattle.js_lexer.specs.declared.token.Flaw.{Flaw}
 use Rattle.js_lexer.specs.declared.token.Flaw.TheVariants as flaw
 use Rattle.js_lexer.specs.declared.token.Token.{Token}
 use Rattle.js_lexer.specs.Characters.{backtick}
-use Rattle.js_program.specs.Builtins.{builtin_of}
 use Rattle.bp_check.specs.Sentences.{hint}
 use Rattle.bp_slips.specs.declared.mistake.Mistake.{Mistake}
 use Rattle.bp_slips.specs.declared.mistake.Mistake.TheVariants.{Unsupported, Assigned, TakenApart, Named, Pattern, NoForm, NoMethod, Unknown}

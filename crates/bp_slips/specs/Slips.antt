@@ -1,5 +1,5 @@
 -- What is wrong in a text that is refused: a line for each slip, in the order of the text.
-use Rattle.std.specs.Prelude.{ℕ, zero, suc, ◌+◌, nat_lt, nat_le, nat_eq, Bool, ◌&&◌, List, [], ◌∷◌, ◌++◌, length, map, flat_map, take, drop, slice_get, codes, decimal, Option, Some, None, ◌≡◌, if◌then◌else◌}
+use Rattle.std.specs.Prelude.{ℕ, zero, suc, ◌+◌, nat_lt, nat_le, Bool, ◌&&◌, List, [], ◌∷◌, ◌++◌, length, flat_map, take, drop, slice_get, codes, decimal, Option, Some, None, ◌≡◌, if◌then◌else◌}
 use Rattle.std.specs.List.{insert}
 use Rattle.js_lexer.specs.declared.token.Token.{Token}
 use Rattle.js_lexer.specs.Gaps.{ends_line, line_of}

@@ -1,9 +1,8 @@
 //! Which tokens are mistakes, by what stands around them.
-ghost use Rattle.std.specs.Prelude.{◌≡◌, ◌+◌, ◌∷◌, [], ◌&&◌, ◌||◌, not, is_some, ℕ, List, slice_get, codes};
-ghost use Rattle.std.specs.Str.{bytes_eq};
+ghost use Rattle.std.specs.Prelude.{◌≡◌, ◌+◌, ◌&&◌, ◌||◌, ℕ, List};
 ghost use Rattle.std.specs.HashSet.{contains_text};
 ghost use Rattle.bp_slips.specs.Looks.{is_among};
-ghost use Rattle.bp_slips.specs.Mistakes.{declarers, openers, assignments, is_field_word, is_unsupported, is_assigned, is_taken_apart, is_named, is_pattern, object_of, is_called, is_no_form_of, is_no_form, known_names, is_given, is_unknown, is_none, is_none_before, is_method_word, is_strange, is_no_method, mistake_at};
+ghost use Rattle.bp_slips.specs.Mistakes.{declarers, openers, assignments, is_field_word, is_unsupported, is_assigned, is_taken_apart, is_named, is_pattern, object_of, is_called, is_no_form_of, is_no_form, is_given, is_unknown, is_none, is_none_before, is_method_word, is_strange, is_no_method, mistake_at};
 
 use crate::looks::{before, behind, here, is_among, is_name, is_refused};
 use crate::names::Names;

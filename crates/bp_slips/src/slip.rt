@@ -1,9 +1,9 @@
 //! The slips of a text, in the order of their places.
-ghost use Rattle.std.specs.Prelude.{◌≡◌, ◌≤◌, ◌<◌, ◌++◌, [], IfOk, OnOk, ℕ, List, length, map, drop, flat_map, string_bytes};
+ghost use Rattle.std.specs.Prelude.{◌≡◌, ◌≤◌, ◌<◌, ◌++◌, IfOk, OnOk, ℕ, List, length, string_bytes};
 ghost use Rattle.std.specs.HashSet.{contains_text};
 ghost use Rattle.js_lexer.specs.declared.limits.TheConstants.{MOST_BYTES};
 ghost use Rattle.bp_slips.specs.Mistakes.{is_given};
-ghost use Rattle.bp_slips.specs.Slips.{wrong_slip, slips_at, slips_below, count_before, inserted, with_wrongs, all_slips, slip_text, slips_text, AreSlipsOf};
+ghost use Rattle.bp_slips.specs.Slips.{wrong_slip, slips_at, slips_below, count_before, with_wrongs, slip_text, slips_text, AreSlipsOf};
 
 use crate::mending::{Wrong, mend, rest_of};
 use crate::mistake::mistake_at;

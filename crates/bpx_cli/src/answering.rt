@@ -1,7 +1,6 @@
 //! What is asked for, and its answer.
 ghost use Rattle.std.specs.Prelude.{◌≡◌, ◌⊎◌, ◌≤◌, Some, IsErrOf, IfOk, IfErr, map, string_bytes};
 ghost use Rattle.bp_base.specs.Counts.{Rose};
-ghost use Rattle.bp_base.specs.Worlds.{Asks};
 ghost use Rattle.bpx_cli.specs.Requests.{request_of};
 ghost use Rattle.bpx_cli.specs.Answers.{Answers, IsUnanswered, EndsAs, Ends};
 ghost use Rattle.bpx_cli.specs.Asking.{name_of, WasAskedFor, AsksIn};

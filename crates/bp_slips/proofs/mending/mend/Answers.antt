@@ -1,8 +1,8 @@
-use Rattle.std.proofs.Common.{◌≡◌, ◌∙◌, ◌<◌, ◌++◌, ℕ, List, [], length, ap, subst, arith}
+use Rattle.std.proofs.Common.{◌≡◌, ◌∙◌, ◌<◌, ℕ, List, [], length, ap, subst, arith}
 use Rattle.bp_slips.specs.declared.mending.Cutting.{Cutting}
 use Rattle.bp_slips.specs.declared.mending.Cutting.TheVariants.{Whole, Flawed, NoText}
 use Rattle.bp_slips.specs.declared.mending.TheConstants.{MOST_WRONGS}
-use Rattle.bp_slips.specs.Mending.{without, wrong_size, Mends}
+use Rattle.bp_slips.specs.Mending.{without, Mends}
 use Rattle.bp_slips.specs.inner.Cuttings.{IsCutting}
 use Rattle.bp_slips.proofs.Mendings.{whole_at, no_text_at, many_at, ends, ends_none, goes_on, same_length}
 use Rattle.bp_slips.proofs.mending.mend.Goals as goal

@@ -1,9 +1,8 @@
-use Rattle.std.proofs.Common.{◌≡◌, ◌∙◌, ◌+◌, ◌||◌, ℕ, List, sym, ap, string_bytes}
+use Rattle.std.proofs.Common.{◌∙◌, ◌+◌, ◌||◌, ℕ, List, sym, ap, string_bytes}
 use Rattle.std.specs.HashSet.{contains_text}
 use Rattle.std.specs.Str.{bytes_eq}
 use Rattle.std.proofs.lemmas.Map.Text.{hash_set_updates_text}
 use Rattle.bp_slips.specs.Looks.{here}
-use Rattle.bp_slips.specs.Mistakes.{is_given_below}
 use Rattle.bp_slips.proofs.Givens.{as_or, given_here, given_not}
 use Rattle.bp_slips.proofs.names.names_of.Goals.{then-gives+in_ok-from_str+in_ok-insert, else-gives}
 use Rattle.bp_slips.proofs.names.names_of.Goals as goal
