@@ -1,5 +1,7 @@
 -- How a command ends that printed an answer.
-use Rattle.std.proofs.Common.{◌≡◌, ℕ, Bool, List, [], ◌∷◌, Option, inl, sym, subst}
+use Rattle.std.proofs.Common.{◌≡◌, ℕ, Bool, List, [], ◌∷◌, Option, Ok, Err, inl, sym, subst}
+use Rattle.std.specs.Prelude.{Result, IfOk, string_bytes}
+use Rattle.bpx_cli.specs.declared.ended.Reply.{Reply}
 use Rattle.bp_base.specs.Worlds.{Holdings}
 use Rattle.bp_base.specs.Pieces.{Appends}
 use Rattle.js_program.specs.PlainProgram.{PlainProgram}
@@ -74,3 +76,8 @@ ends_as holds asked before after text NotRead a p = absurd (answer_done holds as
 ends_as holds asked before after text NotWritten a p = absurd (answer_done holds asked text NotWritten a)
 ends_as holds asked before after text NoMemory a p = absurd (answer_done holds asked text NoMemory a)
 ends_as holds asked before after text (BadLog fault) a p = absurd (answer_done holds asked text (BadLog fault) a)
+
+-- what is found whatever the strategy is found under this one
+pub refused_found : {E : Type 0} (reply : Result Reply E) (bytes : List ℕ) (by_priority : Bool) → IfOk reply (λ a. (any : Bool) → IsFoundIn bytes any (string_bytes a.text) a.end) → IfOk reply (λ a. IsFoundIn bytes by_priority (string_bytes a.text) a.end)
+refused_found (Ok a) bytes by_priority h = h by_priority
+refused_found (Err e) bytes by_priority h = tt
