@@ -9,5 +9,6 @@ pub mod Stops
 pub mod Explained
 pub mod Whys
 pub mod Reasons
+pub mod Traces
 pub mod Seeds
 pub mod inner
