@@ -29,16 +29,17 @@ use Rattle.bp_replay.specs.Laws as replays
 use Rattle.bp_replay.specs.declared.fault.ReplayFault.TheVariants.{Log, Differs, Program, Write, Memory}
 use Rattle.bp_replay.proofs.WholeLogs.{next_leads, one_ok, read_ok}
 use Rattle.bp_explain.specs.Explained.{before_end, heading, if_at_rest, state_after, state_of, verdict_line, words_of}
+use Rattle.bp_explain.specs.Traces.{trace}
 use Rattle.bp_explain.specs.Whys.{asked_at_rest, before_selection, why, why_heading, why_next, why_not, why_not_of, why_text}
 use Rattle.bp_explain.specs.declared.subject.Subject.{Subject}
 use Rattle.bp_explain.specs.declared.subject.Subject.TheVariants as subject
 use Rattle.bp_answers.specs.declared.answer.NoAnswer.{NoAnswer}
 use Rattle.bp_answers.specs.declared.answer.NoAnswer.TheVariants.{Refused, Absent}
-use Rattle.bp_answers.specs.Asking.{HasNoProgram, AnswersBehind, HasNoHeader}
+use Rattle.bp_answers.specs.Asking.{HasNoProgram, AnswersBehind, HasNoHeader, IsAnswer, Saying, traces_from}
 use Rattle.bp_answers.specs.Reading.{IsSpoiled}
 use Rattle.bp_answers.specs.Walking.{Parts}
 use Rattle.bp_answers.specs.Whys.{IsAsked, IsMissing, WhyBehind, said_of}
-use Rattle.bp_answers.specs.Laws.{IsTrouble, AreOne, OneState, OneWhy}
+use Rattle.bp_answers.specs.Laws.{IsTrouble, AreOne, OneState, OneTrace, OneWhy}
 use Rattle.bp_answers.proofs.Reaches.{Reach, asked, fewer, spoiled, IsBad, Reaches, one_reach}
 
 abbrev Answer : Type 0
@@ -330,30 +331,51 @@ module _ (p : PlainProgram) (o : PlainOptions) (rs : List Record) where
       both_told (λ (found c : Configuration Origin). heading rs ++ (asked_at_rest (code_of p o) e (length (before_end rs)) found ++ verdict_line c.stand.verdict))
       (story (code_of p o) o (before_end rs)) (story (code_of p o) o rs) t h
 
-abbrev state_in : PlainHeader → PlainProgram → List Record → Option (List ℕ)
-state_in h p rs = state_of p h.options rs
+-- what is said of records only where they are a story
+abbrev OfStories : Saying → Type 0
+OfStories says = (p : PlainProgram) (o : PlainOptions) (rs : List Record) (t : List ℕ) → says p o rs ≡ Some t → Told p o rs
 
-state_apart : (h : PlainHeader) → AreApart h (state_in h) (λ rs n. Unit {0}) (λ rs. ⊥)
-state_apart h = record {
-  made = λ p rs text n e q s a k. let d = state_told p h.options rs text s in parts_not p h.options rs d.0 n e q d.1 a;
-  there = λ p rs text s m. m;
-  found = λ rs n a m. m;
-}
+module _ (says : Saying) (stories : OfStories says) where
+  abbrev said_after : PlainHeader → PlainProgram → List Record → Option (List ℕ)
+  said_after h p rs = says p h.options rs
 
-state_reached : (number : Option ℕ) (v : Version) (h : PlainHeader) (rest : List ℕ) (x : Answer) → AnswersBehind v h rest number x → Reached h (state_in h) (λ rs n. Unit {0}) (λ rs. ⊥) v rest number x
-state_reached number v h rest (Ok text) a = inr (asked a.0.records, (a.0.stage, a.0.left, a.0.begins, a.0.asked), (a.0.program, a.0.program_is, a.1))
-state_reached number v h rest (Err (Refused (Log f))) a = elim (spoils number f a.0 (next_at a.1 a.2) a.4) [ inl t ↦ inl t | inr m ↦ inr (spoiled m.0, (a.0, a.1, a.2, a.3, (m.2, m.3)), m.1) ]
-state_reached number v h rest (Err (Refused (Differs n e q))) a = inr (asked a.0.records, (a.0.stage, a.0.left, a.0.begins, a.0.asked), (a.0.program, a.0.program_is, a.1, tt))
-state_reached number v h rest (Err (Refused Program)) a = inr (asked a.0.0, (a.0.1, a.0.2, a.0.3, a.0.4), a.1)
-state_reached number v h rest (Err (Refused Write)) a = absurd a
-state_reached number v h rest (Err (Refused Memory)) a = inl tt
-state_reached number v h rest (Err Absent) a = inr (fewer, a, tt)
+  answer_apart : (h : PlainHeader) → AreApart h (said_after h) (λ rs n. Unit {0}) (λ rs. ⊥)
+  answer_apart h = record {
+    made = λ p rs text n e q s a k. let d = stories p h.options rs text s in parts_not p h.options rs d.0 n e q d.1 a;
+    there = λ p rs text s m. m;
+    found = λ rs n a m. m;
+  }
+
+  answer_reached : (number : Option ℕ) (v : Version) (h : PlainHeader) (rest : List ℕ) (x : Answer) → AnswersBehind says v h rest number x → Reached h (said_after h) (λ rs n. Unit {0}) (λ rs. ⊥) v rest number x
+  answer_reached number v h rest (Ok text) a = inr (asked a.0.records, (a.0.stage, a.0.left, a.0.begins, a.0.asked), (a.0.program, a.0.program_is, a.1))
+  answer_reached number v h rest (Err (Refused (Log f))) a = elim (spoils number f a.0 (next_at a.1 a.2) a.4) [ inl t ↦ inl t | inr m ↦ inr (spoiled m.0, (a.0, a.1, a.2, a.3, (m.2, m.3)), m.1) ]
+  answer_reached number v h rest (Err (Refused (Differs n e q))) a = inr (asked a.0.records, (a.0.stage, a.0.left, a.0.begins, a.0.asked), (a.0.program, a.0.program_is, a.1, tt))
+  answer_reached number v h rest (Err (Refused Program)) a = inr (asked a.0.0, (a.0.1, a.0.2, a.0.3, a.0.4), a.1)
+  answer_reached number v h rest (Err (Refused Write)) a = absurd a
+  answer_reached number v h rest (Err (Refused Memory)) a = inl tt
+  answer_reached number v h rest (Err Absent) a = inr (fewer, a, tt)
+
+  one_answered : (bytes : List ℕ) (number : Option ℕ) (x y : Answer) → IsAnswer says bytes number x → IsAnswer says bytes number y → IsTrouble x ⊎ (IsTrouble y ⊎ AreOne x y)
+  one_answered bytes number x y h k =
+      one_in (λ v h rest z. AnswersBehind says v h rest number z)
+      (λ v h rest z w a b. one_behind h (said_after h) (λ rs n. Unit {0}) (λ rs. ⊥) (answer_apart h) v rest number z w (answer_reached number v h rest z a) (answer_reached number v h rest w b))
+      bytes x y h k
 
 pub one_state : OneState
-one_state bytes number x y h k =
-    one_in (λ v h rest z. AnswersBehind v h rest number z)
-    (λ v h rest z w a b. one_behind h (state_in h) (λ rs n. Unit {0}) (λ rs. ⊥) (state_apart h) v rest number z w (state_reached number v h rest z a) (state_reached number v h rest w b))
-    bytes x y h k
+one_state bytes number x y h k = one_answered state_of state_told bytes number x y h k
+
+-- ---- what each record did
+
+some_under : {A B : Type 0} (g : A → B) (x : Option A) (t : B) → option_map g x ≡ Some t → (a : A) × (x ≡ Some a)
+some_under g None t h = absurd (cc)
+some_under g (Some a) t h = (a, refl)
+
+trace_told : (from : ℕ) → OfStories (traces_from from)
+unfolding trace
+trace_told from p o rs t h = some_under _ (story (code_of p o) o rs) t h
+
+pub one_trace : OneTrace
+one_trace bytes from number x y h k = one_answered (traces_from from) (trace_told from) bytes number x y h k
 
 -- ---- why an event was selected
 

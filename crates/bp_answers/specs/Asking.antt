@@ -10,7 +10,9 @@ use Rattle.bp_reading.specs.Reading.{Stage, first_stage, next_at, BeginsWith}
 use Rattle.bp_reader.specs.Gets.{MeansRead}
 use Rattle.bp_script.specs.declared.refusal.Refusal.{Refusal}
 use Rattle.bp_script.specs.Programs.{IsProgram, IsRefused}
+use Rattle.bp_log.specs.Options.{PlainOptions}
 use Rattle.bp_explain.specs.Explained.{state_of}
+use Rattle.bp_explain.specs.Traces.{trace_of}
 use Rattle.bp_replay.specs.declared.fault.ReplayFault.{ReplayFault}
 use Rattle.bp_replay.specs.declared.fault.ReplayFault.TheVariants.{Log, Differs, Program, Write, Memory}
 use Rattle.bp_answers.specs.declared.answer.NoAnswer.{NoAnswer}
@@ -52,23 +54,27 @@ RefusesBehind version header rest number Program =
 RefusesBehind version header rest number Write = ⊥
 RefusesBehind version header rest number Memory = Unit {0}
 
+-- what is said of a program under options after records, where they are a story
+abbrev pub Saying : Type 0
+Saying = PlainProgram → PlainOptions → List Record → Option (List ℕ)
+
 -- what is answered about a log after its header
-abbrev pub AnswersBehind : Version → PlainHeader → List ℕ → Option ℕ →
+abbrev pub AnswersBehind : Saying → Version → PlainHeader → List ℕ → Option ℕ →
     Result (String Global) NoAnswer → Type 0
-AnswersBehind version header rest number (Ok text) =
+AnswersBehind says version header rest number (Ok text) =
     (a : Asked version header rest number)
-    × (state_of a.program header.options a.records ≡ Some (string_bytes text))
-AnswersBehind version header rest number (Err (Refused f)) =
+    × (says a.program header.options a.records ≡ Some (string_bytes text))
+AnswersBehind says version header rest number (Err (Refused f)) =
     RefusesBehind version header rest number f
-AnswersBehind version header rest number (Err Absent) =
+AnswersBehind says version header rest number (Err Absent) =
     ReadsSome (first_stage version header.options.injectors) rest (AreFewer number)
 
 -- the bytes are a header and the rest, about which this is answered
-abbrev pub AnswersHeaded : List ℕ → Option ℕ → Result (String Global) NoAnswer → Type 0
-AnswersHeaded bytes number result =
+abbrev pub AnswersHeaded : Saying → List ℕ → Option ℕ → Result (String Global) NoAnswer → Type 0
+AnswersHeaded says bytes number result =
     (version : Version) × (header : PlainHeader) × (rest : List ℕ)
     × (header_at bytes ≡ Ok ((version, header), rest))
-    × AnswersBehind version header rest number result
+    × AnswersBehind says version header rest number result
 
 -- they have no header
 abbrev pub HasNoHeader : List ℕ → Result (String Global) NoAnswer → Type 0
@@ -80,6 +86,18 @@ HasNoHeader bytes (Err (Refused Write)) = ⊥
 HasNoHeader bytes (Err (Refused Memory)) = Unit {0}
 HasNoHeader bytes (Err Absent) = ⊥
 
--- the state of the story of the log's records, of the first of them or of all, or why there is none
+-- what is said of the log's records, of the first of them or of all, or why nothing is
+abbrev pub IsAnswer : Saying → List ℕ → Option ℕ → Result (String Global) NoAnswer → Type 0
+IsAnswer says bytes number result = HasNoHeader bytes result ⊎ AnswersHeaded says bytes number result
+
+-- the state of the story of these records, or why there is none
 abbrev pub IsState : List ℕ → Option ℕ → Result (String Global) NoAnswer → Type 0
-IsState bytes number result = HasNoHeader bytes result ⊎ AnswersHeaded bytes number result
+IsState bytes number result = IsAnswer state_of bytes number result
+
+-- what each record of the story did, from this one on
+abbrev pub traces_from : ℕ → Saying
+traces_from from program options records = trace_of program options from records
+
+-- that, up to the last of the first so many records or of all, or why it is not told
+abbrev pub IsTrace : List ℕ → ℕ → Option ℕ → Result (String Global) NoAnswer → Type 0
+IsTrace bytes from number result = IsAnswer (traces_from from) bytes number result

@@ -15,7 +15,7 @@ use Rattle.bp_explain.specs.declared.subject.Subject.{Subject}
 use Rattle.bp_replay.specs.Laws as replays
 use Rattle.bp_answers.specs.declared.answer.NoAnswer.{NoAnswer}
 use Rattle.bp_answers.specs.declared.answer.NoAnswer.TheVariants.{Refused, Absent}
-use Rattle.bp_answers.specs.Asking.{IsState}
+use Rattle.bp_answers.specs.Asking.{IsState, IsTrace}
 use Rattle.bp_answers.specs.Whys.{IsWhy}
 
 -- ---- the lines of a state
@@ -59,7 +59,14 @@ OneState =
     (bytes : List ℕ) (number : Option ℕ) (x y : Result (String Global) NoAnswer) →
     IsState bytes number x → IsState bytes number y → IsTrouble x ⊎ (IsTrouble y ⊎ AreOne x y)
 
--- the same of why an event was selected, and of who asks for one
+-- the same of what each record did
+abbrev pub OneTrace : Type 0
+OneTrace =
+    (bytes : List ℕ) (from : ℕ) (number : Option ℕ) (x y : Result (String Global) NoAnswer) →
+    IsTrace bytes from number x → IsTrace bytes from number y →
+    IsTrouble x ⊎ (IsTrouble y ⊎ AreOne x y)
+
+-- and of why an event was selected, and of who asks for one
 abbrev pub OneWhy : Type 0
 OneWhy =
     (bytes : List ℕ) (subject : Subject) (x y : Result (String Global) NoAnswer) →

@@ -3,3 +3,6 @@ pub mod Read
 pub mod Reasons
 pub mod Resting
 pub mod Led
+pub mod Telling
+pub mod Sights
+pub mod Traced

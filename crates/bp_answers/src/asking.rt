@@ -1,16 +1,20 @@
 //! A log that is asked about.
-ghost use Rattle.std.specs.Prelude.{◌≡◌, ◌≤◌, None, IfOk, IfErr, IfSome, IsErrOf};
+ghost use Rattle.std.specs.Prelude.{◌≡◌, ◌≤◌, None, Some, length, string_bytes, IfOk, IfErr, IfSome, IsErrOf};
 ghost use Rattle.bp_base.specs.Counts.{Rose};
 ghost use Rattle.bp_reading.specs.Reading.{first_stage};
+ghost use Rattle.bp_reading.specs.declared.limits.TheConstants.{MOST_RECORDS};
 ghost use Rattle.bp_reader.specs.declared.fault.LogFault.TheVariants as log_fault;
 ghost use Rattle.bp_script.specs.Programs.{IsProgram};
-ghost use Rattle.bp_answers.specs.Asking.{AnswersBehind, HasNoProgram, IsState};
+ghost use Rattle.bp_answers.specs.Asking.{AnswersBehind, HasNoProgram, IsAnswer, IsState, IsTrace};
+ghost use Rattle.bp_answers.specs.inner.Led.{EndsLast, PartsAs};
+ghost use Rattle.bp_answers.specs.inner.Telling.{told_by};
 
 use crate::reading::read;
 use crate::saying::state_text;
+use crate::tracing::trace_text;
 use crate::{Answer, NoAnswer};
 use bp_base::Source;
-use bp_log::Header;
+use bp_log::{Header, Options, Record};
 use bp_reader::Reader;
 use bp_replay::ReplayFault;
 use bp_script::{ScriptFault, accept};
@@ -29,26 +33,85 @@ pub(crate) fn program_of(alloc: Global, header: &Header) -> Result<Program, Repl
     }
 }
 
-/// The state after records that stand after the header.
-fn state_behind<S: Source>(
+/// What is told of the first records of a log.
+pub(crate) enum Telling {
+    /// Where they lead.
+    State,
+    /// What each of them did, from the one of this number on, and with 0 from before the first.
+    Trace(u32),
+}
+
+/// What is told of a program after these records.
+fn text_of(
+    alloc: Global,
+    program: Program,
+    options: Options,
+    records: &[Record],
+    telling: &Telling,
+) -> Result<String, ReplayFault>
+    requires few { length records.now ≤ MOST_RECORDS }
+    requires last { EndsLast records.now }
+    ensures told { IfOk result (λ s.
+        told_by telling.now program options records.now ≡ Some (string_bytes s)) }
+    ensures parts { IfErr result (λ f. PartsAs program options records.now f) }
+{
+    match telling {
+        Telling::State => state_text(alloc, program, options, records),
+        Telling::Trace(from) => trace_text(alloc, program, options, records, *from),
+    }
+}
+
+/// What is told of records that stand after the header.
+fn text_behind<S: Source>(
     alloc: Global,
     header: &Header,
     reader: &mut Reader<S>,
     number: Option<u32>,
+    telling: &Telling,
 ) -> Result<String, NoAnswer>
     requires fresh { reader.old.refusal ≡ None }
     requires stage { reader.old.stage
         ≡ first_stage reader.old.stage.version header.now.options.injectors }
-    ensures answers { IfSome reader.old.left
-        (λ rest. AnswersBehind reader.old.stage.version header.now rest number result) }
+    ensures answers { IfSome reader.old.left (λ rest.
+        AnswersBehind (told_by telling.now) reader.old.stage.version header.now rest number result) }
     ensures read { IsErrOf result (NoAnswer.Refused (ReplayFault.Log log_fault.Read))
         → Rose reader.old.faults reader.new.faults }
     ensures counts { reader.old.faults ≤ reader.new.faults }
 {
     let records = read(alloc, reader, number)?;
     let program = program_of(alloc, header)?;
-    let text = state_text(alloc, program, header.options(), records.as_slice())?;
+    let text = text_of(
+        alloc,
+        program,
+        header.options(),
+        records.as_slice(),
+        telling,
+    )?;
     Ok(text)
+}
+
+/// What is told of the first this many records of a log, or of all of them, of a log that is cut of those
+/// that stand.
+fn answer<S: Source>(alloc: Global, log: S, number: Option<u32>, telling: &Telling) -> Answer<S>
+    ensures answers { IfSome (S.left log)
+        (λ bytes. IsAnswer (told_by telling.now) bytes number result.text) }
+    ensures read { IsErrOf result.text (NoAnswer.Refused (ReplayFault.Log log_fault.Read))
+        → Rose (S.faults log) (S.faults result.log) }
+    ensures counts { S.faults log ≤ S.faults result.log }
+{
+    match Reader::open(alloc, log) {
+        Err(refused) => Answer {
+            text: Err(NoAnswer::from(refused.fault)),
+            log: refused.source,
+        },
+        Ok((mut reader, header)) => {
+            let text = text_behind(alloc, &header, &mut reader, number, telling);
+            Answer {
+                text,
+                log: reader.back(),
+            }
+        }
+    }
 }
 
 /// The state after the first this many records of a log, or after all of them, of a log that is cut
@@ -66,17 +129,23 @@ pub fn state<S: Source>(alloc: Global, log: S, number: Option<u32>) -> Answer<S>
         → Rose (S.faults log) (S.faults result.log) }
     ensures counts { S.faults log ≤ S.faults result.log }
 {
-    match Reader::open(alloc, log) {
-        Err(refused) => Answer {
-            text: Err(NoAnswer::from(refused.fault)),
-            log: refused.source,
-        },
-        Ok((mut reader, header)) => {
-            let text = state_behind(alloc, &header, &mut reader, number);
-            Answer {
-                text,
-                log: reader.back(),
-            }
-        }
-    }
+    answer(alloc, log, number, &Telling::State)
+}
+
+/// What each record of a log did, a line a record, up to the record of this number, or to the last, of a
+/// log that is cut to the last that stands: the record by its number, where a selected event comes from,
+/// who moved from which line to which, who was interrupted or registered, and what was said; and at the
+/// end which of them moved nobody. It begins with the record of the number `from`, and with 0 before the
+/// first.
+///
+/// # Errors
+///
+/// Those of `state`.
+pub fn trace<S: Source>(alloc: Global, log: S, from: u32, number: Option<u32>) -> Answer<S>
+    ensures answers { IfSome (S.left log) (λ bytes. IsTrace bytes from number result.text) }
+    ensures read { IsErrOf result.text (NoAnswer.Refused (ReplayFault.Log log_fault.Read))
+        → Rose (S.faults log) (S.faults result.log) }
+    ensures counts { S.faults log ≤ S.faults result.log }
+{
+    answer(alloc, log, number, &Telling::Trace(from))
 }

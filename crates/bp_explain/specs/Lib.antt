@@ -10,5 +10,6 @@ pub mod Explained
 pub mod Whys
 pub mod Reasons
 pub mod Traces
+pub mod Traced
 pub mod Seeds
 pub mod inner

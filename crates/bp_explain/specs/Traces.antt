@@ -21,7 +21,6 @@ use Rattle.bp_run.specs.Selecting.{live}
 use Rattle.bp_run.specs.Story.{after_record, is_over, story}
 use Rattle.bp_code.specs.Code.{code_of}
 use Rattle.bp_explain.specs.Words.{Words}
-use Rattle.bp_explain.specs.Listed.{listed}
 use Rattle.bp_explain.specs.Reaching.{interrupts, moves}
 use Rattle.bp_explain.specs.Standing.{standing}
 use Rattle.bp_explain.specs.Explained.{before_end, words_of}
@@ -74,10 +73,10 @@ spot_words false mark line = mark ++ spot_text line
 
 -- ---- who is moved, and who is registered
 
--- each after commas, and a word before the first
-abbrev pub behind_word : {A : Type 0} → List ℕ → (A → List ℕ) → List A → List ℕ
-behind_word word text [] = []
-behind_word word text (x ∷ xs) = word ++ listed text (x ∷ xs)
+-- each behind a mark: the first behind this one, and the others behind commas
+abbrev pub marked : {A : Type 0} → List ℕ → (A → List ℕ) → List A → List ℕ
+marked mark text [] = []
+marked mark text (x ∷ xs) = mark ++ (text x ++ marked (codes ", ") text xs)
 
 -- a b-thread that goes on, by its number: in words its name and the line where it stood
 abbrev pub Mover : Type 0
@@ -113,7 +112,7 @@ abbrev pub moved_text : (ℕ → List ℕ) → List Mover → List ℕ → List 
 moved_text spot ms interrupted =
     if is_nobody ms interrupted
     then codes "; moved nobody"
-    else behind_word (codes "; moved ") (λ m. m.1 ++ spot m.0) ms
+    else marked (codes "; moved ") (λ m. m.1 ++ spot m.0) ms
 
 -- a registered b-thread: its name, and the line where it stands
 abbrev pub Sight : Type 0
@@ -125,8 +124,7 @@ sight_of code w t = (t.name, line_of code w t)
 
 abbrev pub registered_text : Bool → List Sight → List ℕ
 registered_text over ss =
-    behind_word (codes "; registered ")
-    (λ x. quoted_text x.0 ++ spot_words over (codes " ") x.1) ss
+    marked (codes "; registered ") (λ x. quoted_text x.0 ++ spot_words over (codes " ") x.1) ss
 
 -- ---- what was printed
 
@@ -196,7 +194,7 @@ lost_in code w from m =
 
 abbrev pub lost_text : List ℕ → List ℕ
 lost_text [] = []
-lost_text (n ∷ ns) = codes "moved nobody: records " ++ (listed decimal (n ∷ ns) ++ codes "\n")
+lost_text (n ∷ ns) = marked (codes "moved nobody: records ") decimal (n ∷ ns) ++ codes "\n"
 
 -- ---- all of it
 

@@ -9,10 +9,12 @@ mod sets;
 mod standing;
 mod stops;
 mod subject;
+mod tracing;
 mod whys;
 
 pub use reaching::Scene;
 pub use rest::{Rest, write_rest};
 pub use stops::Stop;
 pub use subject::Subject;
+pub use tracing::{Mover, interrupted_words, movers};
 pub use whys::{Draws, write_asked, write_selection};
