@@ -2,6 +2,9 @@ pub mod ReadLemmas
 pub mod Walks
 pub mod Rests
 pub mod States
+pub mod Shown
+pub mod Sights
+pub mod Traces
 pub mod Asks
 pub mod Places
 pub mod ReasonLemmas

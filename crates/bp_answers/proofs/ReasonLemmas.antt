@@ -191,7 +191,7 @@ records_at c a Rest h w = w.0
 records_at c a Over h w = absurd (cc)
 
 -- at rest the records of an arbiter lead to where the course does
-recounts : (c : Course) (a : PlainArbiter) → IsThere c a → a.phase ≡ Rest → Recounts a c.told
+pub recounts : (c : Course) (a : PlainArbiter) → IsThere c a → a.phase ≡ Rest → Recounts a c.told
 recounts c a t r =
     let runs = t.runs in
     ap (λ (l : Code Origin PlainSet). story l (options_in a) a.records) runs.code
@@ -289,11 +289,11 @@ up_to n i rs e fault.Memory some h len w = tt
 -- ---- a selection that was made
 
 -- what a selection says is what comes next
-record IsSelected {O S : Type 0} (l : Code O S) (o : PlainOptions) (c : Configuration O) (e : PlainEvent) : Type 0 where
-  choice : Choice
-  reached : List Touched
-  comes : next l o c ≡ Selects choice reached
-  same : same_event e choice.event ≡ true
+pub record IsSelected {O S : Type 0} (l : Code O S) (o : PlainOptions) (c : Configuration O) (e : PlainEvent) : Type 0 where
+  pub choice : Choice
+  pub reached : List Touched
+  pub comes : next l o c ≡ Selects choice reached
+  pub same : same_event e choice.event ≡ true
 
 selected_if : {A : Type 0} (b : Bool) (x y : A) → (if b then Some x else None) ≡ Some y → b ≡ true
 selected_if true x y h = refl
@@ -304,7 +304,7 @@ selected_as l o c d e (Ends v) k h = absurd (cc)
 selected_as l o c d e Waits k h = absurd (cc)
 selected_as l o c d e (Selects ch reached) k h = record { choice = ch; reached = reached; comes = k; same = selected_if (same_event e ch.event) (move l c ch reached) d h }
 
-selected : {O S : Type 0} (l : Code O S) (o : PlainOptions) (c d : Configuration O) (e : PlainEvent) → after_record l o c (Sel e) ≡ Some d → IsSelected l o c e
+pub selected : {O S : Type 0} (l : Code O S) (o : PlainOptions) (c d : Configuration O) (e : PlainEvent) → after_record l o c (Sel e) ≡ Some d → IsSelected l o c e
 unfolding after_record
 selected l o c d e h = selected_as l o c d e (next l o c) refl h
 

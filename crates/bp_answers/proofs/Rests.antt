@@ -44,7 +44,7 @@ use Rattle.bp_explain.proofs.Stood.{AreNamed, AreStopsOf, rest_is}
 use Rattle.bp_answers.specs.inner.Resting.{PlainStop, plain_stop, stop_of, stop_at, stops_from, RestsAs}
 use Rattle.bp_answers.proofs.Walks.{code_is}
 
-abbrev standing_in : PlainStop → Standing PlainSet
+abbrev pub standing_in : PlainStop → Standing PlainSet
 standing_in s = record { name = s.name; line = s.line; statement = s.statement }
 
 abbrev live_in : PlainStop → Live PlainSet
@@ -90,7 +90,7 @@ module _ (p : PlainProgram) (o : PlainOptions) where
   stop_at_is : (n : ℕ) (t : Thread Origin) → stop_at p o n t ≡ stop_by n t.name t.ended ((code_of p o).after t.origin t.replies).outcome (line_after p o t)
   stop_at_is n t = ap (λ (l : Code Origin PlainSet). stop_by n t.name t.ended (l.after t.origin t.replies).outcome (line_after p o t)) (code_is p o)
 
-  standing_is : (n : ℕ) (t : Thread Origin) → standing (code_of p o) (words_of p o) t ≡ option_map standing_in (stop_at p o n t)
+  pub standing_is : (n : ℕ) (t : Thread Origin) → standing (code_of p o) (words_of p o) t ≡ option_map standing_in (stop_at p o n t)
   standing_is n t = standing_by n t.name t.ended ((code_of p o).after t.origin t.replies).outcome (line_after p o t) ∙ ap (option_map standing_in) (sym (stop_at_is n t))
 
   stated_is : (n : ℕ) (t : Thread Origin) → stated (code_of p o) n t ≡ option_map live_in (stop_at p o n t)
@@ -121,7 +121,7 @@ module _ (p : PlainProgram) (o : PlainOptions) where
   forget_going : (t : Thread Origin) → t.ended ≡ false → forget the_top t ≡ t
   forget_going t h = ap (λ (b : Bool). if b then record t { origin = the_top; replies = [] } else t) h
 
-  stop_forgotten : (n : ℕ) (t : Thread Origin) (b : Bool) → t.ended ≡ b → stop_at p o n (forget the_top t) ≡ stop_at p o n t
+  pub stop_forgotten : (n : ℕ) (t : Thread Origin) (b : Bool) → t.ended ≡ b → stop_at p o n (forget the_top t) ≡ stop_at p o n t
   stop_forgotten n t false h = ap (stop_at p o n) (forget_going t h)
   stop_forgotten n t true h = ended_stops n (forget the_top t) (forget_ended_at the_top true t h ∙ h) ∙ sym (ended_stops n t h)
 

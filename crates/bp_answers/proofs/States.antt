@@ -43,7 +43,7 @@ verdict_at c a Over n w h = ap verdict_of w.1 ∙ verdict_by_last c.records (End
 verdict_here : (c : Course) (a : PlainArbiter) → IsThere c a → (a.phase ≡ Rest → c.told.stand.verdict ≡ None) → verdict_of a.records ≡ c.told.stand.verdict
 verdict_here c a t h = verdict_at c a a.phase (none_in c a t) t.stays h
 
-no_end : (records : List Record) → EndsLast records → verdict_of records ≡ None → records ≡ before_end records
+pub no_end : (records : List Record) → EndsLast records → verdict_of records ≡ None → records ≡ before_end records
 no_end records l n = elim l [
   | inl h ↦ h
   | inr p ↦ absurd (let k : None ≡ Some p.0 = sym n ∙ ap verdict_of p.1 ∙ verdict_by_last (before_end records) (End p.0) in cc)
@@ -67,7 +67,7 @@ same_end records v l s n = elim l [
 ]
 
 -- the end of the records, after the course that comes to it
-end_behind : (program : PlainProgram) (options : PlainOptions) (records : List Record) (v : Verdict) (a : PlainArbiter) (w : LeadsTo program options (before_end records) a) → EndsLast records → verdict_of records ≡ Some v → records ≡ (w.course).records ++ End v ∷ []
+pub end_behind : (program : PlainProgram) (options : PlainOptions) (records : List Record) (v : Verdict) (a : PlainArbiter) (w : LeadsTo program options (before_end records) a) → EndsLast records → verdict_of records ≡ Some v → records ≡ (w.course).records ++ End v ∷ []
 end_behind program options records v a w last some =
     same_end records v last some (ap verdict_of (sym w.records_are) ∙ none_in w.course a w.there) ∙ ap (λ (rs : List Record). rs ++ End v ∷ []) (sym w.records_are)
 

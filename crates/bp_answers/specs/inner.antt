@@ -3,6 +3,6 @@ pub mod Read
 pub mod Reasons
 pub mod Resting
 pub mod Led
-pub mod Telling
+pub mod Questions
 pub mod Sights
 pub mod Traced

@@ -7,7 +7,7 @@ ghost use Rattle.bp_reader.specs.declared.fault.LogFault.TheVariants as log_faul
 ghost use Rattle.bp_script.specs.Programs.{IsProgram};
 ghost use Rattle.bp_answers.specs.Asking.{AnswersBehind, HasNoProgram, IsAnswer, IsState, IsTrace};
 ghost use Rattle.bp_answers.specs.inner.Led.{EndsLast, PartsAs};
-ghost use Rattle.bp_answers.specs.inner.Telling.{told_by};
+ghost use Rattle.bp_answers.specs.inner.Questions.{says_of};
 
 use crate::reading::read;
 use crate::saying::state_text;
@@ -33,8 +33,9 @@ pub(crate) fn program_of(alloc: Global, header: &Header) -> Result<Program, Repl
     }
 }
 
-/// What is told of the first records of a log.
-pub(crate) enum Telling {
+/// What is asked of the first records of a log.
+#[derive(Clone, Copy)]
+enum Question {
     /// Where they lead.
     State,
     /// What each of them did, from the one of this number on, and with 0 from before the first.
@@ -47,17 +48,17 @@ fn text_of(
     program: Program,
     options: Options,
     records: &[Record],
-    telling: &Telling,
+    question: Question,
 ) -> Result<String, ReplayFault>
     requires few { length records.now ≤ MOST_RECORDS }
     requires last { EndsLast records.now }
     ensures told { IfOk result (λ s.
-        told_by telling.now program options records.now ≡ Some (string_bytes s)) }
+        says_of question program options records.now ≡ Some (string_bytes s)) }
     ensures parts { IfErr result (λ f. PartsAs program options records.now f) }
 {
-    match telling {
-        Telling::State => state_text(alloc, program, options, records),
-        Telling::Trace(from) => trace_text(alloc, program, options, records, *from),
+    match question {
+        Question::State => state_text(alloc, program, options, records),
+        Question::Trace(from) => trace_text(alloc, program, options, records, from),
     }
 }
 
@@ -67,13 +68,13 @@ fn text_behind<S: Source>(
     header: &Header,
     reader: &mut Reader<S>,
     number: Option<u32>,
-    telling: &Telling,
+    question: Question,
 ) -> Result<String, NoAnswer>
     requires fresh { reader.old.refusal ≡ None }
     requires stage { reader.old.stage
         ≡ first_stage reader.old.stage.version header.now.options.injectors }
     ensures answers { IfSome reader.old.left (λ rest.
-        AnswersBehind (told_by telling.now) reader.old.stage.version header.now rest number result) }
+        AnswersBehind (says_of question) reader.old.stage.version header.now rest number result) }
     ensures read { IsErrOf result (NoAnswer.Refused (ReplayFault.Log log_fault.Read))
         → Rose reader.old.faults reader.new.faults }
     ensures counts { reader.old.faults ≤ reader.new.faults }
@@ -85,16 +86,16 @@ fn text_behind<S: Source>(
         program,
         header.options(),
         records.as_slice(),
-        telling,
+        question,
     )?;
     Ok(text)
 }
 
 /// What is told of the first this many records of a log, or of all of them, of a log that is cut of those
 /// that stand.
-fn answer<S: Source>(alloc: Global, log: S, number: Option<u32>, telling: &Telling) -> Answer<S>
+fn answer<S: Source>(alloc: Global, log: S, number: Option<u32>, question: Question) -> Answer<S>
     ensures answers { IfSome (S.left log)
-        (λ bytes. IsAnswer (told_by telling.now) bytes number result.text) }
+        (λ bytes. IsAnswer (says_of question) bytes number result.text) }
     ensures read { IsErrOf result.text (NoAnswer.Refused (ReplayFault.Log log_fault.Read))
         → Rose (S.faults log) (S.faults result.log) }
     ensures counts { S.faults log ≤ S.faults result.log }
@@ -105,7 +106,7 @@ fn answer<S: Source>(alloc: Global, log: S, number: Option<u32>, telling: &Telli
             log: refused.source,
         },
         Ok((mut reader, header)) => {
-            let text = text_behind(alloc, &header, &mut reader, number, telling);
+            let text = text_behind(alloc, &header, &mut reader, number, question);
             Answer {
                 text,
                 log: reader.back(),
@@ -129,7 +130,7 @@ pub fn state<S: Source>(alloc: Global, log: S, number: Option<u32>) -> Answer<S>
         → Rose (S.faults log) (S.faults result.log) }
     ensures counts { S.faults log ≤ S.faults result.log }
 {
-    answer(alloc, log, number, &Telling::State)
+    answer(alloc, log, number, Question::State)
 }
 
 /// What each record of a log did, a line a record, up to the record of this number, or to the last, of a
@@ -147,5 +148,5 @@ pub fn trace<S: Source>(alloc: Global, log: S, from: u32, number: Option<u32>) -
         → Rose (S.faults log) (S.faults result.log) }
     ensures counts { S.faults log ≤ S.faults result.log }
 {
-    answer(alloc, log, number, &Telling::Trace(from))
+    answer(alloc, log, number, Question::Trace(from))
 }

@@ -28,14 +28,14 @@ use Rattle.bp_explain.proofs.Selected.{rests_on, chosen_there, moved_are, interr
 -- ---- names
 
 -- these numbers are those of these names
-abbrev AreCalled : {O : Type 0} → Stand O → List ℕ → List (List ℕ) → Type 0
+abbrev pub AreCalled : {O : Type 0} → Stand O → List ℕ → List (List ℕ) → Type 0
 AreCalled s ns names = map (words_at s) ns ≡ map quoted_text names
 
 listed_is : {O : Type 0} (s : Stand O) (ns : List ℕ) (names : List (List ℕ)) → AreCalled s ns names → names_text s ns ≡ listed quoted_text names
 listed_is s ns names h =
     listed_from_map false (words_at s) ns ∙ ap (λ (xs : List (List ℕ)). listed_from false (λ (x : List ℕ). x) xs) h ∙ sym (listed_from_map false quoted_text names)
 
-with_is : {O : Type 0} (s : Stand O) (word ns : List ℕ) (names : List (List ℕ)) → AreCalled s ns names → with_names s word ns ≡ with_words word names
+pub with_is : {O : Type 0} (s : Stand O) (word ns : List ℕ) (names : List (List ℕ)) → AreCalled s ns names → with_names s word ns ≡ with_words word names
 with_is s word [] [] h = refl
 with_is s word [] (m ∷ ms) h = absurd (cc)
 with_is s word (n ∷ ns) [] h = absurd (cc)
@@ -57,7 +57,7 @@ nobody_is s (n ∷ ns) (m ∷ ms) h = listed_is s (n ∷ ns) (m ∷ ms) h
 
 module _ {O : Type 0} (l : Code O PlainSet) (w : Words O PlainSet) (s : Stand O) (ss : List Stop) (a : AreStopsOf l w s ss) where
   -- those of a test
-  called : (p : Live PlainSet → Bool) → AreCalled s (map (λ t. t.number) (filter p (live l s))) (map name_of (filter (λ x. p (live_of x)) ss))
+  pub called : (p : Live PlainSet → Bool) → AreCalled s (map (λ t. t.number) (filter p (live l s))) (map name_of (filter (λ x. p (live_of x)) ss))
   called p = ap (λ (ts : List (Live PlainSet)). map (words_at s) (map (λ t. t.number) (filter p ts))) a.lives ∙ names_filtered s p ss a.named
 
   blockers_called : (e : PlainEvent) → AreCalled s (blockers l.has (live l s) e) (blocker_names l.has ss e)

@@ -5,7 +5,7 @@ use Rattle.bp_log.specs.Options.{PlainOptions}
 use Rattle.bp_log.specs.declared.record.Record.{Record}
 use Rattle.bp_answers.specs.Asking.{AnswersBehind}
 use Rattle.bp_answers.specs.inner.Led.{PartsAs}
-use Rattle.bp_answers.specs.inner.Telling.{told_by}
+use Rattle.bp_answers.specs.inner.Questions.{says_of}
 use Rattle.bp_answers.specs.declared.answer.NoAnswer.{NoAnswer}
 use Rattle.bp_answers.proofs.Asks.{answered, unmade}
 use Rattle.bp_answers.proofs.asking.text_behind.Goals as goal
@@ -14,7 +14,7 @@ pub returns-in_err-text-clause-answers : goal.returns-in_err-text-clause-answers
 returns-in_err-text-clause-answers g c =
     let r = c.args.reader.now in
     let header = c.args.header.now in
-    let says = told_by c.args.telling.now in
+    let says = says_of c.args.question in
     let v = c.in_ok-records.records in
     let program = c.in_ok-program.program in
     let f = c.in_err-text.field-0.0 in
@@ -28,7 +28,7 @@ pub returns-clause-answers : goal.returns-clause-answers
 returns-clause-answers g c =
     let r = c.args.reader.now in
     let header = c.args.header.now in
-    let says = told_by c.args.telling.now in
+    let says = says_of c.args.question in
     let v = c.in_ok-records.records in
     let program = c.in_ok-program.program in
     answered r.stage.version header c.args.number r.stage c.requires.stage says r.left v program c.in_ok-text.text c.in_ok-program.ensures.program c.in_ok-records.ensures.reads
