@@ -1,5 +1,5 @@
 # Made by docs/manual.sh from README.md and docs/COMMAND.md.
-complete -c bpx -n __fish_use_subcommand -f -a "check seeds state why --help"
+complete -c bpx -n __fish_use_subcommand -f -a "check seeds state trace why --help"
 complete -c bpx -n "__fish_seen_subcommand_from seeds" -l strategy -x -a "simple ordered priority" -d "draw any selectable event, a first choice, or one of the greatest priority"
 complete -c bpx -n "__fish_seen_subcommand_from seeds" -l budget -x -d "the most nodes (statements and expressions) of a b-thread between two synchronisation points"
 complete -c bpx -n "__fish_seen_subcommand_from seeds" -l steps -x -d "the most events to select"

@@ -184,8 +184,8 @@ bpx state other.log ==> 11 bad log: record 1 expected sel ["e"] found sel ["f"] 
 bpx state waits.log ==> 11 bad log: record 1 expected wait found sel ["x"] ==>
 bpx why line.log 1 ==> 11 bad log: line 2 ==>
 bpx why other.log '["e"]' ==> 11 bad log: record 1 expected sel ["e"] found sel ["f"] ==>
-bpx ==> 12 usage: bpx check PROGRAM | bpx state LOG [N] | bpx why LOG N | bpx why LOG EVENT | bpx seeds PROGRAM FROM TO [OPTIONS] | bpx --help ==>
-bpx run quiet.js ==> 12 usage: bpx check PROGRAM | bpx state LOG [N] | bpx why LOG N | bpx why LOG EVENT | bpx seeds PROGRAM FROM TO [OPTIONS] | bpx --help ==>
+bpx ==> 12 usage: bpx check PROGRAM | bpx state LOG [N] | bpx trace LOG [FROM TO] | bpx why LOG N | bpx why LOG EVENT | bpx seeds PROGRAM FROM TO [OPTIONS] | bpx --help ==>
+bpx run quiet.js ==> 12 usage: bpx check PROGRAM | bpx state LOG [N] | bpx trace LOG [FROM TO] | bpx why LOG N | bpx why LOG EVENT | bpx seeds PROGRAM FROM TO [OPTIONS] | bpx --help ==>
 bpx check big.js ==> 0 ==>
 bpx state quiet.log 3 ==> 13 no such record or selection ==>
 bpx why quiet.log 2 ==> 13 no such record or selection ==>

@@ -12,6 +12,7 @@ use Rattle.bpx_cli.specs.SeedsAsked.{PlainSeeds}
 use Rattle.bpx_cli.specs.declared.request.Request.{Request}
 use Rattle.bpx_cli.specs.declared.request.Request.TheVariants as request
 use Rattle.bpx_cli.specs.States.{IsStateOf, IsUnstated}
+use Rattle.bpx_cli.specs.Traces.{IsTraceOf, IsUntraced}
 use Rattle.bpx_cli.specs.Whys.{IsWhyOf, IsUnexplained}
 use Rattle.bpx_cli.specs.declared.ended.Ended.{Ended}
 use Rattle.bpx_cli.specs.declared.ended.Ended.TheVariants.{Answered, Found, NoCommand, Refused, Absent, NotRead, NotWritten, NoMemory, BadLog}
@@ -56,6 +57,7 @@ abbrev pub Answers : Option Holdings → Request → List ℕ → Ended → Type
 Answers holds request.Help text end = (text ≡ HELP.now) × (end ≡ Answered)
 Answers holds (request.Check name) text end = IsCheckOf holds name text end
 Answers holds (request.State s) text end = IsStateOf holds s text × (end ≡ Answered)
+Answers holds (request.Trace t) text end = IsTraceOf holds t text × (end ≡ Answered)
 Answers holds (request.Why w) text end = IsWhyOf holds w text × (end ≡ Answered)
 Answers holds (request.Seeds s) text end = AreSeedsOf holds s text × (end ≡ Answered)
 
@@ -64,6 +66,7 @@ abbrev pub IsUnanswered : Option Holdings → Request → Ended → Type 0
 IsUnanswered holds request.Help end = end ≡ NoMemory
 IsUnanswered holds (request.Check name) end = IsUnloaded holds name end
 IsUnanswered holds (request.State s) end = IsUnstated holds s end
+IsUnanswered holds (request.Trace t) end = IsUntraced holds t end
 IsUnanswered holds (request.Why w) end = IsUnexplained holds w end
 IsUnanswered holds (request.Seeds s) end = IsUnloaded holds s.program end
 

@@ -11,6 +11,7 @@ abbrev pub name_of : Request → Option (List ℕ)
 name_of request.Help = None
 name_of (request.Check program) = Some program
 name_of (request.State asked) = Some asked.log
+name_of (request.Trace asked) = Some asked.log
 name_of (request.Why asked) = Some asked.log
 name_of (request.Seeds asked) = Some asked.program
 

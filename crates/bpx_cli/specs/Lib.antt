@@ -1,10 +1,12 @@
 pub mod Requests
 pub mod StateAsked
+pub mod TraceAsked
 pub mod WhyAsked
 pub mod SeedsAsked
 pub mod Logs
 pub mod States
 pub mod Statuses
+pub mod Traces
 pub mod Whys
 pub mod Answers
 pub mod Asking

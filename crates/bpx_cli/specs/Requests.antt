@@ -8,6 +8,7 @@ use Rattle.bpx_cli.specs.declared.request.Request.{Request}
 use Rattle.bpx_cli.specs.declared.request.Request.TheVariants as request
 use Rattle.bpx_cli.specs.StateAsked.{state_asked}
 use Rattle.bpx_cli.specs.SeedsAsked.{seeds_asked}
+use Rattle.bpx_cli.specs.TraceAsked.{trace_asked}
 use Rattle.bpx_cli.specs.WhyAsked.{why_asked}
 
 abbrev pub check_asked : Option Command → Option Request
@@ -22,9 +23,10 @@ abbrev pub request_behind : List ℕ → List (List ℕ) → Option Request
 request_behind first words =
     if bytes_eq first (codes "check") then check_asked (command_of (codes "accept" ∷ words)) else
     (if bytes_eq first (codes "state") then option_map request.State (state_asked words) else
+    (if bytes_eq first (codes "trace") then option_map request.Trace (trace_asked words) else
     (if bytes_eq first (codes "why") then option_map request.Why (why_asked words) else
     (if bytes_eq first (codes "seeds") then option_map request.Seeds (seeds_asked words) else
-    (if bytes_eq first (codes "--help") then help_of words else None))))
+    (if bytes_eq first (codes "--help") then help_of words else None)))))
 
 -- what the words ask for, if they are a command of `bpx`
 abbrev pub request_of : List (List ℕ) → Option Request

@@ -13,6 +13,7 @@ use crate::reasoning::why_reply;
 use crate::request::{Request, read};
 use crate::seeding::seeds_reply;
 use crate::stating::state_reply;
+use crate::tracing::trace_reply;
 use bp_args::Usage;
 use bp_base::{Sink, World, write_all};
 use bp_check::check;
@@ -98,6 +99,7 @@ fn answer_to<R: Threads + Sync, W: World>(
         },
         Request::Check(name) => check_reply(alloc, name, world),
         Request::State(asked) => state_reply(alloc, asked, world),
+        Request::Trace(asked) => trace_reply(alloc, asked, world),
         Request::Why(asked) => why_reply(alloc, asked, world),
         Request::Seeds(asked) => seeds_reply(rt, alloc, asked, world),
     }

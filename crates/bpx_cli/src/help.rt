@@ -6,6 +6,10 @@ pub const HELP: &str = "bpx check PROGRAM
 bpx state LOG [N]
     where the b-threads of the run that a log tells stand after its first N records, or after all
     of them: what each asks for, what waits in the queue, and why nothing can be selected
+bpx trace LOG [FROM TO]
+    what each record of the run that a log tells did, a line a record: where an event came from, who
+    moved from which line to which, who was interrupted or registered, what was said; and at the end
+    which records moved nobody. From the record FROM to TO, and with 0 from before the first
 bpx why LOG N
     why the event of the N-th selection of a log was selected: who requested and who blocked each
     event, what the strategy left, which word was drawn, who went on and who was interrupted
@@ -21,5 +25,5 @@ bpx --help
 ";
 
 /// The note of words that ask for nothing.
-pub const USAGE: &str = "usage: bpx check PROGRAM | bpx state LOG [N] | bpx why LOG N | \
-bpx why LOG EVENT | bpx seeds PROGRAM FROM TO [OPTIONS] | bpx --help";
+pub const USAGE: &str = "usage: bpx check PROGRAM | bpx state LOG [N] | bpx trace LOG [FROM TO] | \
+bpx why LOG N | bpx why LOG EVENT | bpx seeds PROGRAM FROM TO [OPTIONS] | bpx --help";

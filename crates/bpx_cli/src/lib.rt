@@ -12,6 +12,8 @@ mod seeding;
 mod seeds;
 mod state;
 mod stating;
+mod trace;
+mod tracing;
 mod why;
 
 pub use answering::answer;

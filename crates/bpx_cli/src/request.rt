@@ -5,6 +5,7 @@ ghost use Rattle.bpx_cli.specs.Requests.{check_asked, help_of, request_behind, r
 use crate::behind::command_behind;
 use crate::seeds::{Seeds, seeds_asked};
 use crate::state::{State, state_asked};
+use crate::trace::{Trace, trace_asked};
 use crate::why::{Why, why_asked};
 use bp_args::{Command, Usage};
 use js_data::Text;
@@ -19,6 +20,8 @@ pub enum Request {
     Check(Text),
     /// Where the b-threads of a run stand.
     State(State),
+    /// What each record of a run did.
+    Trace(Trace),
     /// Why an event was selected, or who requests and who blocks one where a run ends.
     Why(Why),
     /// How the runs of a program end.
@@ -57,6 +60,7 @@ fn read_behind(alloc: Global, first: &str, words: &[String]) -> Result<Request, 
     match first {
         "check" => check_in(command_behind(alloc, "accept", words)?),
         "state" => Ok(Request::State(state_asked(alloc, words)?)),
+        "trace" => Ok(Request::Trace(trace_asked(alloc, words)?)),
         "why" => Ok(Request::Why(why_asked(alloc, words)?)),
         "seeds" => Ok(Request::Seeds(seeds_asked(alloc, words)?)),
         "--help" => help_in(words),

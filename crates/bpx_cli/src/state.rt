@@ -47,7 +47,7 @@ pub(crate) fn last_apart(words: &[String]) -> Option<(&[String], &str)>
 }
 
 /// The words before the last, and the number that the last is.
-fn numbered(words: &[String]) -> Option<(&[String], u32)>
+pub(crate) fn numbered(words: &[String]) -> Option<(&[String], u32)>
     ensures { option_map (λ p. (map string_bytes p.0.now, p.1)) result
         ≡ numbered (map string_bytes words.now) }
 {
