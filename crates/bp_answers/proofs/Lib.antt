@@ -4,6 +4,7 @@ pub mod Rests
 pub mod States
 pub mod Shown
 pub mod Sights
+pub mod Reached
 pub mod Traces
 pub mod Asks
 pub mod Places

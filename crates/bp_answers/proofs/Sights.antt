@@ -1,9 +1,13 @@
 -- Where an arbiter's b-threads are said to be is where those of its story are.
-use Rattle.std.proofs.Common.{◌≡◌, ◌∙◌, ℕ, zero, suc, ◌+◌, Bool, true, false, List, [], ◌∷◌, ◌++◌, length, map, drop, refl, ap, sym, subst, arith, Option, Some, None}
+use Rattle.std.proofs.Common.{◌≡◌, ◌∙◌, ℕ, zero, suc, ◌+◌, ◌<◌, ◌≤◌, append-nil, append_assoc, Bool, true, false, List, [], ◌∷◌, ◌++◌, length, map, drop, refl, ap, sym, subst, arith, Option, Some, None}
 use Rattle.std.specs.Prelude.{slice_get, option_map, option_and_then, string_bytes, codes, if◌then◌else◌}
 use Rattle.std.specs.List.{cons_option}
 use Rattle.std.proofs.Math.Seq.{drop-append_seam}
+use Rattle.std.proofs.lemmas.List.{drop_all}
+use Rattle.std.proofs.lemmas.Option.{get_or_from_slice_get}
 use Rattle.js_data.specs.Event.{PlainEvent}
+use Rattle.js_data.specs.JsonText.{quoted_text}
+use Rattle.js_data.proofs.Shared.{drop_is}
 use Rattle.js_value.specs.Value.{PlainSet}
 use Rattle.js_program.specs.PlainProgram.{PlainProgram}
 use Rattle.js_meaning.specs.Bodies.{Origin, the_top}
@@ -11,17 +15,18 @@ use Rattle.bp_log.specs.Options.{PlainOptions}
 use Rattle.bp_log.specs.declared.trace.Line.{Line}
 use Rattle.bp_log.specs.declared.verdict.Verdict.{Verdict}
 use Rattle.bp_run.specs.Bodies.{Code}
-use Rattle.bp_run.specs.Configuration.{Configuration, Stand, Thread}
+use Rattle.bp_run.specs.Configuration.{Configuration, Stand, Thread, name_in}
 use Rattle.bp_run.specs.Story.{is_over}
 use Rattle.bp_code.specs.Code.{code_of}
 use Rattle.bp_floor.specs.Stops.{Stop as Stood, stop_in}
 use Rattle.bp_floor.specs.Forgetting.{forget}
+use Rattle.bp_floor.proofs.Lists.{found}
 use Rattle.bp_arbiter.specs.Arbiters.{PlainArbiter, options_in, stand_in}
 use Rattle.bp_explain.specs.declared.stops.Stop.{Stop}
 use Rattle.bp_explain.specs.Words.{Words}
 use Rattle.bp_explain.specs.Explained.{words_of}
 use Rattle.bp_explain.specs.Traced.{plain_mover}
-use Rattle.bp_explain.specs.Traces.{Mover, Sight, interrupted_text, line_at, line_of, moved_text, movers, registered_text, said_text, selection_text, sight_of, since, source_text, spot_words}
+use Rattle.bp_explain.specs.Traces.{Mover, Sight, interrupted_text, line_at, line_of, marked, moved_text, movers, registered_text, said_text, selection_text, sight_of, since, source_text, spot_words}
 use Rattle.bp_explain.proofs.Reached.{AreSpotted}
 use Rattle.bp_answers.specs.declared.sights.Reached.{Reached}
 use Rattle.bp_answers.specs.inner.Resting.{PlainStop, plain_stop, stop_at, stop_of, stops_from}
@@ -144,3 +149,37 @@ module _ (a : PlainArbiter) (d : Configuration Origin) (shows : ShowsAs a d) whe
       ∙ ap (λ (f : ℕ → List ℕ). source_text (drop (length c.stand.lines) d.stand.lines) ++ (moved_text f ms named ++ (named ++ since l w (length c.stand.threads) (length c.stand.lines) d))) (λ i n. spot_is (codes "-") n i)
       ∙ ap (λ (xs : List Mover). source_text (drop (length c.stand.lines) d.stand.lines) ++ (moved_text spot xs named ++ (named ++ since l w (length c.stand.threads) (length c.stand.lines) d))) reached.moved
       ∙ ap (λ (x : List ℕ). source_text (drop (length c.stand.lines) d.stand.lines) ++ (moved_text spot (movers l w c.stand e) x ++ (x ++ since l w (length c.stand.threads) (length c.stand.lines) d))) reached.interrupted
+
+-- ---- those that were registered
+
+sights_next : (a : PlainArbiter) (n : ℕ) → n < length (stand_in a).threads → sights_on a n ≡ (name_in (slice_get (stand_in a).threads n), line_on a n) ∷ sights_on a (n + 1)
+sights_next a n less =
+    let all = (stand_in a).threads in
+    let f = found all n less in
+    let t = f.0 in
+    let p = a.floor.base.program in
+    let o = options_in a in
+    ap (map (λ (x : Thread Origin). (x.name, line_in p o (Some x)))) (drop_is all n t less (sym (get_or_from_slice_get all n t t f.1)))
+    ∙ ap (λ (x : Option (Thread Origin)). (name_in x, line_in p o x) ∷ sights_on a (n + 1)) (sym f.1)
+
+abbrev pub sight_words : PlainArbiter → Sight → List ℕ
+sight_words a x = quoted_text x.0 ++ spot_words (is_away a.phase) (codes " ") x.1
+
+-- one more was written
+pub registered_on : (a : PlainArbiter) (n : ℕ) (mark old new whole : List ℕ) → n < length (stand_in a).threads → new ≡ old ++ (mark ++ (quoted_text (name_in (slice_get (stand_in a).threads n)) ++ spot_on a (codes " ") n)) → old ++ marked mark (sight_words a) (sights_on a n) ≡ whole →
+    new ++ marked (codes ", ") (sight_words a) (sights_on a (n + 1)) ≡ whole
+registered_on a n mark old new whole less written h =
+    let rest = marked (codes ", ") (sight_words a) (sights_on a (n + 1)) in
+    let x = (name_in (slice_get (stand_in a).threads n), line_on a n) in
+    ap (λ (t : List ℕ). t ++ rest) written
+    ∙ append_assoc old (mark ++ sight_words a x) rest
+    ∙ ap (λ (t : List ℕ). old ++ t) (append_assoc mark (sight_words a x) rest)
+    ∙ ap (λ (xs : List Sight). old ++ marked mark (sight_words a) xs) (sym (sights_next a n less))
+    ∙ h
+
+-- or there are no more
+pub registered_last : (a : PlainArbiter) (n : ℕ) (mark text whole : List ℕ) → length (stand_in a).threads ≤ n → text ++ marked mark (sight_words a) (sights_on a n) ≡ whole → text ≡ whole
+registered_last a n mark text whole last h =
+    sym (append-nil text)
+    ∙ ap (λ (ts : List (Thread Origin)). text ++ marked mark (sight_words a) (map (λ (x : Thread Origin). (x.name, line_in a.floor.base.program (options_in a) (Some x))) ts)) (sym (drop_all n (stand_in a).threads last))
+    ∙ h

@@ -64,6 +64,13 @@ none_selected c a b e t moved m =
     let going = (rests_on (code_in c) c.options c.told s.choice s.reached s.comes).going in
     let f : None ≡ Some over.0 = sym going ∙ over.2 in cc
 
+pub is_selection : (r : Record) (e : PlainEvent) → Some e ≡ selected_in r → r ≡ Sel e
+is_selection (In j f) e h = absurd (cc)
+is_selection (Bad j n) e h = absurd (cc)
+is_selection (Eof j) e h = absurd (cc)
+is_selection (Sel f) e h = ap (λ (x : PlainEvent). Sel x) (let k : f ≡ e = cc in k)
+is_selection (End v) e h = absurd (cc)
+
 -- of what is no selection nothing is said
 pub did_nothing : (c : Course) (r : Record) (n : ℕ) (b : PlainArbiter) (before lost : List ℕ) → selected_in r ≡ None → IsMade c r b → WritesDid c r n b before before lost lost
 did_nothing c (In j e) n b before lost h m = record { made = m; written = sym (append-nil before); noted = sym (append-nil lost) }
@@ -224,15 +231,22 @@ module _ (program : PlainProgram) (options : PlainOptions) (from : ℕ) where
       ap (λ (x : PlainArbiter). initial (sealed_code_of x.floor.base.program x.floor.options) x.floor.options.injectors) e
       ∙ ap (λ (k : Code Origin PlainSet). initial k options.injectors) (code_is program options)
 
+  pub started_text : (a : PlainArbiter) (before after : List ℕ) → a ≡ opened program options → after ≡ before ++ start_text (code_in (first_of Second a)) (words_in (first_of Second a)) from (first_of Second a).told → after ≡ before ++ start_text l w from first
+  started_text a before after e h =
+      subst (λ (k : Code Origin PlainSet). after ≡ before ++ start_text k w from (initial k options.injectors)) (code_is program options)
+      (subst (λ (x : PlainArbiter). after ≡ before ++ start_text (code_in (first_of Second x)) (words_in (first_of Second x)) from (first_of Second x).told) e h)
+
   -- before the first
-  pub along_start : (records : List Record) (a b : PlainArbiter) (w0 : Along program options records 0 b) (before text lost all : List ℕ) → w0.course.told ≡ first → text ≡ before ++ start_text l w from first → AlongTold records 0 b text lost (before ++ (start_text l w from first ++ text_from 1 first (before_end records))) (lost ++ lost_from 1 first (before_end records))
-  along_start records a b w0 before text lost all told written = record {
+  pub along_start : (records : List Record) (a b : PlainArbiter) (w0 : Along program options records 0 b) (before text old lost : List ℕ) → a ≡ opened program options → w0.course.told ≡ (first_of Second a).told →
+      text ≡ before ++ start_text (code_in (first_of Second a)) (words_in (first_of Second a)) from (first_of Second a).told → lost ≡ old →
+      AlongTold records 0 b text lost (before ++ (start_text l w from first ++ text_from 1 first (before_end records))) (old ++ lost_from 1 first (before_end records))
+  along_start records a b w0 before text old lost opens told_there written same = let told : w0.course.told ≡ first = told_there ∙ first_told a opens in record {
     along = w0;
     text_is =
         ap (λ (c : Configuration Origin). text ++ text_from 1 c (before_end records)) told
-        ∙ ap (λ (x : List ℕ). x ++ text_from 1 first (before_end records)) written
+        ∙ ap (λ (x : List ℕ). x ++ text_from 1 first (before_end records)) (started_text a before text opens written)
         ∙ append_assoc before (start_text l w from first) (text_from 1 first (before_end records));
-    lost_is = ap (λ (c : Configuration Origin). lost ++ lost_from 1 c (before_end records)) told;
+    lost_is = ap (λ (c : Configuration Origin). lost ++ lost_from 1 c (before_end records)) told ∙ ap (λ (x : List ℕ). x ++ lost_from 1 first (before_end records)) same;
   }
 
   one_moment : (c d : Configuration Origin) (n : ℕ) (r : Record) (rs : List Record) (x : Option (Configuration Origin)) → x ≡ Some d → moments_at l options n c r rs x ≡ record { number = n; entry = r; before = c; after = d } ∷ moments l options (suc n) d rs

@@ -139,17 +139,17 @@ taken_more rs i r h e =
     let n : i + 1 ≡ suc i = omega arith in
     ap (λ (k : ℕ). take k rs) n ∙ take-suc rs i r h ∙ ap (λ (x : Record). take i rs ++ x ∷ []) (sym e)
 
-pub along_on : (program : PlainProgram) (options : PlainOptions) (records : List Record) (i : ℕ) (r : Record) (a b later : PlainArbiter) (w : Along program options records i a) → i < length records → r ≡ get_or records i r → IsNoEnd r → (m : Makes w.course r b) →
-    IsThere (onto w.course r m.0) later → b.floor.base.program ≡ a.floor.base.program → later.floor.base.program ≡ b.floor.base.program → Along program options records (i + 1) later
-along_on program options records i r a b later w less is none m t same kept =
+pub along_on : (program : PlainProgram) (options : PlainOptions) (records : List Record) (i : ℕ) (r : Record) (a later : PlainArbiter) (w : Along program options records i a) → i < length records → r ≡ get_or records i r → IsNoEnd r → (d : Configuration Origin) →
+    IsThere (onto w.course r d) later → later.floor.base.program ≡ a.floor.base.program → Along program options records (i + 1) later
+along_on program options records i r a later w less is none d t same =
     let next : take (i + 1) records ≡ take i records ++ r ∷ [] = taken_more records i r less is in
     record {
-      course = onto w.course r m.0;
+      course = onto w.course r d;
       program_is = w.program_is;
       options_are = w.options_are;
       records_are = ap (λ (rs : List Record). rs ++ r ∷ []) w.records_are ∙ sym next;
       there = t;
-      kept = kept ∙ same ∙ w.kept;
+      kept = same ∙ w.kept;
       split =
           w.split
           ∙ ap (λ (rs : List Record). take i records ++ before_end rs) (drop_is records i r less is)

@@ -1,8 +1,11 @@
 //! Where the b-threads of an arbiter are, in words, after a record.
-ghost use Rattle.std.specs.Prelude.{◌≡◌, ◌++◌, map, slice_get, false, OnOk, codes, string_bytes};
+ghost use Rattle.std.specs.Prelude.{◌≡◌, ◌<◌, ◌++◌, length, map, slice_get, false, OnOk, codes, string_bytes};
+ghost use Rattle.js_data.specs.JsonText.{quoted_text};
+ghost use Rattle.bp_run.specs.Configuration.{name_in};
+ghost use Rattle.bp_arbiter.specs.Arbiters.{stand_in};
 ghost use Rattle.bp_floor.specs.declared.phase.Phase.TheVariants as phase;
 ghost use Rattle.bp_explain.specs.Traced.{plain_mover};
-ghost use Rattle.bp_explain.specs.Traces.{is_nobody, marked, moved_text, registered_text, said_text, source_text, spot_text};
+ghost use Rattle.bp_explain.specs.Traces.{is_nobody, marked, moved_text, registered_text, said_line, said_text, source_text, spot_text};
 ghost use Rattle.bp_answers.specs.inner.Sights.{did_on, is_away, line_in, sights_on, since_on, spot_on};
 
 use bp_arbiter::{Arbiter, Floor, Phase};
@@ -122,6 +125,26 @@ fn write_moved(
     write_movers(alloc, arbiter, reached.moved.as_slice(), text)
 }
 
+/// Writes the name of the b-thread of this number after a mark, and where it stands.
+fn write_sight(
+    alloc: Global,
+    arbiter: &Arbiter,
+    mark: &str,
+    number: u32,
+    text: &mut String,
+) -> Result<(), Memory>
+    requires sound { arbiter.now.broken ≡ false }
+    requires there { number < length (stand_in arbiter.now).threads }
+    ensures { OnOk result (string_bytes text.new ≡ string_bytes text.old ++ (mark.now
+        ++ (quoted_text (name_in (slice_get (stand_in arbiter.now).threads number))
+        ++ spot_on arbiter.now (codes " ") number))) }
+{
+    let name = quoted(alloc, arbiter.floor().name_of(number))?;
+    text.push_str(mark)?;
+    text.push_str(name.as_str())?;
+    write_spot(alloc, arbiter, " ", number, text)
+}
+
 /// Writes the b-threads that were registered from this number on, each with where it stands.
 fn write_registered(
     alloc: Global,
@@ -135,16 +158,31 @@ fn write_registered(
 {
     // For the proof: what the arbiter keeps.
     arbiter.keeps();
-    let floor = arbiter.floor();
+    let count = arbiter.floor().count() as u32;
     let mut mark = "; registered ";
-    for number in first..floor.count() as u32 {
-        let name = quoted(alloc, floor.name_of(number))?;
-        text.push_str(mark)?;
-        text.push_str(name.as_str())?;
-        write_spot(alloc, arbiter, " ", number, text)?;
+    for number in first..count {
+        write_sight(alloc, arbiter, mark, number, text)?;
         mark = ", ";
     }
     Ok(())
+}
+
+/// Writes a line, if it is of what the script wrote.
+fn write_said_line(alloc: Global, line: &Line, text: &mut String) -> Result<(), Memory>
+    ensures { OnOk result (string_bytes text.new ≡ string_bytes text.old ++ said_line line.now) }
+{
+    match line {
+        Line::Log(_, _) => {
+            let words = line_of(alloc, line)?;
+            text.push_str("; ")?;
+            text.push_str(words.as_str())
+        }
+        Line::Event(_) => Ok(()),
+        Line::External(_) => Ok(()),
+        Line::Done(_) => Ok(()),
+        Line::Interrupted(_) => Ok(()),
+        Line::Verdict(_) => Ok(()),
+    }
 }
 
 /// Writes what the script wrote.
@@ -153,18 +191,7 @@ fn write_said(alloc: Global, lines: &[Line], text: &mut String) -> Result<(), Me
         ≡ string_bytes text.old ++ said_text lines.now) }
 {
     for line in lines {
-        match line {
-            Line::Log(_, _) => {
-                let words = line_of(alloc, line)?;
-                text.push_str("; ")?;
-                text.push_str(words.as_str())?;
-            }
-            Line::Event(_)
-            | Line::External(_)
-            | Line::Done(_)
-            | Line::Interrupted(_)
-            | Line::Verdict(_) => {}
-        }
+        write_said_line(alloc, line, text)?;
     }
     Ok(())
 }

@@ -1,5 +1,5 @@
 //! What each record of a run did, in words.
-ghost use Rattle.std.specs.Prelude.{◌≡◌, ◌≤◌, ◌++◌, [], length, flat_map, option_map, None, Some, Err, IfOk, IfErr, OnOk, codes, string_bytes};
+ghost use Rattle.std.specs.Prelude.{◌≡◌, ◌≤◌, ◌++◌, ◌∷◌, [], if◌then◌else◌, length, flat_map, option_map, None, Some, Err, IfOk, IfErr, OnOk, string_bytes};
 ghost use Rattle.js_program.specs.PlainProgram.{PlainProgram};
 ghost use Rattle.bp_log.specs.Logs.{record_text};
 ghost use Rattle.bp_log.specs.Options.{PlainOptions};
@@ -29,6 +29,7 @@ use js_program::Program;
 use std::alloc::Global;
 
 /// What was written of a run so far.
+#[derive(Drop)]
 struct Trace {
     /// The number of the first record that is told; 0 is before the first.
     from: u32,
@@ -94,6 +95,17 @@ fn selected(found: &Record) -> Option<&Event>
     }
 }
 
+/// The number comes to those before, if that is so.
+fn note_if(is_so: bool, number: u32, numbers: &mut Vec<u32>) -> Result<(), Memory>
+    ensures { OnOk result (numbers.new.items
+        ≡ numbers.old.items ++ (if is_so then number ∷ [] else [])) }
+{
+    if is_so {
+        numbers.push(number)?;
+    }
+    Ok(())
+}
+
 impl Trace {
     /// The run makes a selection, and what the event did is written.
     fn select(
@@ -124,9 +136,7 @@ impl Trace {
         let lines = settle_lines(alloc, arbiter)?;
         let lines = said(arbiter, lines.as_slice());
         write_did(alloc, arbiter, &reached, lines, &mut self.text)?;
-        if reached.is_nobody() {
-            self.lost.push(number)?;
-        }
+        note_if(reached.is_nobody(), number, &mut self.lost)?;
         Ok(())
     }
 
@@ -339,8 +349,11 @@ pub fn trace_text(
     };
     let mut arbiter = trace.walk(alloc, program, options, records)?;
     make_end(alloc, &mut arbiter, records)?;
-    let Trace { text, lost, .. } = trace;
-    let mut text = text;
+    let Trace {
+        from: _,
+        mut text,
+        lost,
+    } = trace;
     write_last(alloc, records.len() as u32, verdict_of(records), &mut text)?;
     write_lost(alloc, lost.as_slice(), &mut text)?;
     Ok(text)

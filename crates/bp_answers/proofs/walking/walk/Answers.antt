@@ -70,5 +70,5 @@ loop-place-preserved c =
     let going : IsNoEnd r = ap verdict_in c.in_ok-copy.ensures ∙ is_no_end c.index-records-place.result c.verdict.result c.verdict.ensures none in
     let m : Makes d r c.follow.new.arbiter = c.in_ok-follow.ensures.followed d w.there in
     let rest = c.in_ok-come_to_rest-2.ensures in
-    along_on c.args.program c.args.options records i r c.loop-place.arbiter c.follow.new.arbiter c.come_to_rest-in-loop-place.new.arbiter w less is going m (rest.there (onto d r m.0) d.told.stand.lines (makes_on d r c.follow.new.arbiter m going))
-    c.in_ok-follow.ensures.program rest.program
+    along_on c.args.program c.args.options records i r c.loop-place.arbiter c.come_to_rest-in-loop-place.new.arbiter w less is going m.0 (rest.there (onto d r m.0) d.told.stand.lines (makes_on d r c.follow.new.arbiter m going))
+    (rest.program ∙ c.in_ok-follow.ensures.program)
