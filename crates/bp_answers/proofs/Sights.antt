@@ -25,6 +25,7 @@ use Rattle.bp_arbiter.specs.Arbiters.{PlainArbiter, options_in, stand_in}
 use Rattle.bp_explain.specs.declared.stops.Stop.{Stop}
 use Rattle.bp_explain.specs.Words.{Words}
 use Rattle.bp_explain.specs.Explained.{words_of}
+use Rattle.bp_explain.specs.Standing.{Standing}
 use Rattle.bp_explain.specs.Traced.{plain_mover}
 use Rattle.bp_explain.specs.Traces.{Mover, Sight, interrupted_text, line_at, line_of, marked, moved_text, movers, registered_text, said_text, selection_text, sight_of, since, source_text, spot_words}
 use Rattle.bp_explain.proofs.Reached.{AreSpotted}
@@ -36,11 +37,11 @@ use Rattle.bp_answers.proofs.Rests.{standing_in, standing_is, stop_forgotten, st
 
 -- ---- one b-thread
 
-lines_of : (n : ℕ) (name : List ℕ) (s : Option Stood) → option_map (λ x. x.line) (option_map standing_in (option_map (stop_of n name) s)) ≡ option_map (λ x. x.0) s
+lines_of : (n : ℕ) (name : List ℕ) (s : Option Stood) → option_map (λ (x : Standing PlainSet). x.line) (option_map standing_in (option_map (stop_of n name) s)) ≡ option_map (λ (x : Stood). x.0) s
 lines_of n name None = refl
 lines_of n name (Some s) = refl
 
-lines_at : (n : ℕ) (name : List ℕ) (s : Option Stood) → option_map (λ (x : PlainStop). x.line) (option_map (stop_of n name) s) ≡ option_map (λ x. x.0) s
+lines_at : (n : ℕ) (name : List ℕ) (s : Option Stood) → option_map (λ (x : PlainStop). x.line) (option_map (stop_of n name) s) ≡ option_map (λ (x : Stood). x.0) s
 lines_at n name None = refl
 lines_at n name (Some s) = refl
 
@@ -53,7 +54,7 @@ name_kept t = name_by t.ended t
 
 module _ (p : PlainProgram) (o : PlainOptions) where
   line_is : (t : Thread Origin) → line_of (code_of p o) (words_of p o) t ≡ line_in p o (Some t)
-  line_is t = ap (option_map (λ x. x.line)) (standing_is p o 0 t) ∙ lines_of 0 t.name (stop_in p o (Some t))
+  line_is t = ap (option_map (λ (x : Standing PlainSet). x.line)) (standing_is p o 0 t) ∙ lines_of 0 t.name (stop_in p o (Some t))
 
   line_forgotten : (t : Thread Origin) → line_in p o (Some (forget the_top t)) ≡ line_in p o (Some t)
   line_forgotten t =

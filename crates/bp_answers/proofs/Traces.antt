@@ -30,7 +30,7 @@ use Rattle.bp_log.specs.declared.version.Version.TheVariants.{Second}
 use Rattle.bp_explain.specs.Words.{Words}
 use Rattle.bp_explain.specs.Explained.{before_end, words_of}
 use Rattle.bp_explain.specs.Traced.{plain_mover}
-use Rattle.bp_explain.specs.Traces.{Moment, Mover, did_text, end_text, interrupted_text, is_nobody, lost_in, lost_text, moment_text, moments, moments_at, movers, numbered, reaches_nobody, selection_text, since, start_text, trace, trace_of}
+use Rattle.bp_explain.specs.Traces.{Moment, Mover, did_text, end_text, interrupted_text, is_nobody, lost_in, lost_text, moment_text, moments, movers, numbered, reaches_nobody, selection_text, since, start_text, trace, trace_of}
 use Rattle.bp_explain.proofs.Selected.{rests_on}
 use Rattle.bp_answers.specs.declared.sights.Reached.{Reached}
 use Rattle.bp_answers.specs.inner.Led.{EndsLast, LeadsTo}
@@ -109,15 +109,6 @@ selects c a b later e n r said before after lost more t rest program same says m
           ∙ ap (λ (x : List ℕ). lost ++ (if is_nobody (movers (code_in c) (words_in c) c.told.stand e) x then n ∷ [] else [])) here.interrupted;
     }
 
--- the record's number is noted, or is not
-pub noted_so : (b : Bool) (n : ℕ) (lost more : List ℕ) → b ≡ true → more ≡ lost ++ n ∷ [] → more ≡ lost ++ (if b then n ∷ [] else [])
-noted_so true n lost more h e = e
-noted_so false n lost more h e = absurd (cc)
-
-pub not_noted : (b : Bool) (n : ℕ) (lost : List ℕ) → b ≡ false → lost ≡ lost ++ (if b then n ∷ [] else [])
-not_noted true n lost h = absurd (cc)
-not_noted false n lost h = sym (append-nil lost)
-
 -- ---- the line of a record
 
 numbered_on : (n : ℕ) (xs ys : List ℕ) → numbered n (xs ++ ys) ≡ numbered n xs ++ ys
@@ -173,12 +164,9 @@ goes_by c r n from b before headed did after lost more least head d last =
 
 -- ---- before the first record
 
-start_later : (from : ℕ) (c : Course) (before : List ℕ) → 0 < from → before ≡ before ++ start_text (code_in c) (words_in c) from c.told
-start_later zero c before h = absurd (omega (arith, h))
-start_later (suc n) c before h = sym (append-nil before)
-
 pub starts_later : (from : ℕ) (c : Course) (before : List ℕ) → 0 < from → before ≡ before ++ start_text (code_in c) (words_in c) from c.told
-starts_later = start_later
+starts_later zero c before h = absurd (omega (arith, h))
+starts_later (suc n) c before h = sym (append-nil before)
 
 started : (before body : List ℕ) → ((before ++ codes "0 start") ++ body) ++ codes "\n" ≡ before ++ (codes "0 start" ++ (body ++ codes "\n"))
 started before body = append_assoc (before ++ codes "0 start") body (codes "\n") ∙ append_assoc before (codes "0 start") (body ++ codes "\n")
@@ -249,7 +237,8 @@ module _ (program : PlainProgram) (options : PlainOptions) (from : ℕ) where
     lost_is = ap (λ (c : Configuration Origin). lost ++ lost_from 1 c (before_end records)) told ∙ ap (λ (x : List ℕ). x ++ lost_from 1 first (before_end records)) same;
   }
 
-  one_moment : (c d : Configuration Origin) (n : ℕ) (r : Record) (rs : List Record) (x : Option (Configuration Origin)) → x ≡ Some d → moments_at l options n c r rs x ≡ record { number = n; entry = r; before = c; after = d } ∷ moments l options (suc n) d rs
+  one_moment : (c d : Configuration Origin) (n : ℕ) (r : Record) (rs : List Record) (x : Option (Configuration Origin)) → x ≡ Some d →
+      (elim x [ None ↦ [] | Some e ↦ record { number = n; entry = r; before = c; after = e } ∷ moments l options (suc n) e rs ]) ≡ record { number = n; entry = r; before = c; after = d } ∷ moments l options (suc n) d rs
   one_moment c d n r rs None h = absurd (cc)
   one_moment c d n r rs (Some e) h = let k : e ≡ d = cc in ap (λ (z : Configuration Origin). record { number = n; entry = r; before = c; after = z } ∷ moments l options (suc n) z rs) k
 

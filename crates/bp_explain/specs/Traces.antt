@@ -10,9 +10,9 @@ use Rattle.bp_log.specs.Options.{PlainOptions}
 use Rattle.bp_log.specs.Records.{verdict_of}
 use Rattle.bp_log.specs.Texts.{line_text}
 use Rattle.bp_log.specs.declared.record.Record.{Record}
-use Rattle.bp_log.specs.declared.record.Record.TheVariants.{In, Bad, Eof, Sel, End}
+use Rattle.bp_log.specs.declared.record.Record.TheVariants.{Sel, End}
 use Rattle.bp_log.specs.declared.trace.Line.{Line}
-use Rattle.bp_log.specs.declared.trace.Line.TheVariants.{Event, External, Log, Done, Interrupted, Verdict as Ended_by}
+use Rattle.bp_log.specs.declared.trace.Line.TheVariants.{External, Log}
 use Rattle.bp_log.specs.declared.verdict.Verdict.{Verdict}
 use Rattle.bp_run.specs.Bodies.{Code}
 use Rattle.bp_run.specs.Configuration.{Configuration, Stand, Thread, name_in}
@@ -36,18 +36,15 @@ pub record Moment (Origin : Type 0) : Type 0 where
   pub after : Configuration Origin
 
 -- the moments of records that are made from here on, the first of which has this number
-abbrev mutual
-  pub moments : {Origin Set : Type 0} → Code Origin Set → PlainOptions → ℕ → Configuration Origin →
-      List Record → List (Moment Origin)
-  moments code o n c [] = []
-  moments code o n c (r ∷ rs) = moments_at code o n c r rs (after_record code o c r)
-
-  pub moments_at : {Origin Set : Type 0} → Code Origin Set → PlainOptions → ℕ →
-      Configuration Origin → Record → List Record → Option (Configuration Origin) →
-      List (Moment Origin)
-  moments_at code o n c r rs None = []
-  moments_at code o n c r rs (Some d) =
-      record { number = n; entry = r; before = c; after = d } ∷ moments code o (suc n) d rs
+abbrev pub moments : {Origin Set : Type 0} → Code Origin Set → PlainOptions → ℕ →
+    Configuration Origin → List Record → List (Moment Origin)
+moments code o n c [] = []
+moments code o n c (r ∷ rs) =
+    elim (after_record code o c r) [
+      | None ↦ []
+      | Some d ↦
+          record { number = n; entry = r; before = c; after = d } ∷ moments code o (suc n) d rs
+    ]
 
 -- ---- where a b-thread stands
 
@@ -155,7 +152,7 @@ abbrev pub selection_text : {Origin Set : Type 0} → Code Origin Set → Words 
     Configuration Origin → Configuration Origin → List ℕ
 selection_text code w e c d =
     let interrupted = interrupted_text code c.stand e in
-    let spot = λ n. spot_words (is_over d) (codes "-") (line_at code w d.stand n) in
+    let spot : ℕ → List ℕ = λ n. spot_words (is_over d) (codes "-") (line_at code w d.stand n) in
     source_text (drop (length c.stand.lines) d.stand.lines)
     ++ (moved_text spot (movers code w c.stand e) interrupted
     ++ (interrupted ++ since code w (length c.stand.threads) (length c.stand.lines) d))
