@@ -1,6 +1,6 @@
 -- What is written of records is what each of them did.
 use Rattle.std.proofs.Common.{◌≡◌, ◌∙◌, ℕ, zero, suc, ◌+◌, ◌<◌, ◌≤◌, Bool, true, false, List, [], ◌∷◌, ◌++◌, append-nil, append_assoc, length, map, take, drop, get_or, refl, ap, sym, subst, arith, Option, Some, None, Err}
-use Rattle.std.specs.Prelude.{nat_le, flat_map, option_map, string_bytes, decimal, codes, ◌&&◌, if◌then◌else◌}
+use Rattle.std.specs.Prelude.{is_some, nat_le, flat_map, option_map, string_bytes, decimal, codes, ◌&&◌, if◌then◌else◌}
 use Rattle.std.specs.Borrow.{Bor}
 use Rattle.std.proofs.lemmas.Bool.{le-leb, lt-leb}
 use Rattle.std.proofs.lemmas.List.{drop_all}
@@ -290,11 +290,11 @@ module _ (program : PlainProgram) (options : PlainOptions) (from : ℕ) where
   pub told_last : (records : List Record) (i : ℕ) (a : PlainArbiter) (text lost whole all : List ℕ) → AlongTold records i a text lost whole all → length records ≤ i → (text ≡ whole) × (lost ≡ all)
   told_last records i a text lost whole all t last = none_more records i a text lost whole all t (ap before_end (drop_all i records last))
 
-  ended_next : (records : List Record) (i : ℕ) (r : Record) (o : Option (Bor Verdict)) → i < length records → r ≡ get_or records i r → option_map (λ v. v.now) o ≡ verdict_in r → (o ≡ None → ⊥) → before_end (drop i records) ≡ []
-  ended_next records i r None less is e h = absurd (h refl)
+  ended_next : (records : List Record) (i : ℕ) (r : Record) (o : Option (Bor Verdict)) → i < length records → r ≡ get_or records i r → option_map (λ v. v.now) o ≡ verdict_in r → is_some o ≡ true → before_end (drop i records) ≡ []
+  ended_next records i r None less is e h = absurd (cc)
   ended_next records i r (Some v) less is e h = ap before_end (drop_is records i r less is) ∙ end_here r (drop (i + 1) records) v.now (sym e)
 
-  pub told_end : (records : List Record) (i : ℕ) (r : Record) (o : Option (Bor Verdict)) (a : PlainArbiter) (text lost whole all : List ℕ) → AlongTold records i a text lost whole all → i < length records → r ≡ get_or records i r → option_map (λ v. v.now) o ≡ verdict_in r → (o ≡ None → ⊥) →
+  pub told_end : (records : List Record) (i : ℕ) (r : Record) (o : Option (Bor Verdict)) (a : PlainArbiter) (text lost whole all : List ℕ) → AlongTold records i a text lost whole all → i < length records → r ≡ get_or records i r → option_map (λ v. v.now) o ≡ verdict_in r → is_some o ≡ true →
       (text ≡ whole) × (lost ≡ all)
   told_end records i r o a text lost whole all t less is e h = none_more records i a text lost whole all t (ended_next records i r o less is e h)
 

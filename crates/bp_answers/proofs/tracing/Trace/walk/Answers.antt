@@ -52,3 +52,63 @@ loop-place-preserved c =
       along_more c.args.program c.args.options from records i r a later (string_bytes c.loop-place.self.text) c.loop-place.self.lost.items _ _ (string_bytes c.go_on.new.self.text) c.go_on.new.self.lost.items t less c.index-records-place.is going m next refl,
       gone.from ∙ c.loop-place.invariant.1,
     )
+
+pub returns-then-is_some-clause-leads : goal.returns-then-is_some-clause-leads
+returns-then-is_some-clause-leads c =
+    let records = c.args.records.now in
+    let i = c.loop-place.place in
+    let less : i < length records = search rules in
+    let some : is_some c.verdict.result ≡ true = search rules in
+    leads_ended c.args.program c.args.options records i c.index-records-place.result c.verdict.result c.loop-place.arbiter c.loop-place.invariant.0.along less c.index-records-place.is c.verdict.ensures some
+
+pub returns-then-is_some-clause-written : goal.returns-then-is_some-clause-written
+returns-then-is_some-clause-written c =
+    let records = c.args.records.now in
+    let i = c.loop-place.place in
+    let less : i < length records = search rules in
+    let some : is_some c.verdict.result ≡ true = search rules in
+    (told_end c.args.program c.args.options c.args.self.now.from records i c.index-records-place.result c.verdict.result c.loop-place.arbiter _ _ _ _ c.loop-place.invariant.0 less c.index-records-place.is c.verdict.ensures some).0
+
+pub returns-then-is_some-clause-noted : goal.returns-then-is_some-clause-noted
+returns-then-is_some-clause-noted c =
+    let records = c.args.records.now in
+    let i = c.loop-place.place in
+    let less : i < length records = search rules in
+    let some : is_some c.verdict.result ≡ true = search rules in
+    (told_end c.args.program c.args.options c.args.self.now.from records i c.index-records-place.result c.verdict.result c.loop-place.arbiter _ _ _ _ c.loop-place.invariant.0 less c.index-records-place.is c.verdict.ensures some).1
+
+pub returns-clause-written : goal.returns-clause-written
+returns-clause-written c =
+    let records = c.args.records.now in
+    let i = c.loop-place.place in
+    let last : length records ≤ i = search rules in
+    (told_last c.args.program c.args.options c.args.self.now.from records i c.loop-place.arbiter _ _ _ _ c.loop-place.invariant.0 last).0
+
+pub returns-clause-noted : goal.returns-clause-noted
+returns-clause-noted c =
+    let records = c.args.records.now in
+    let i = c.loop-place.place in
+    let last : length records ≤ i = search rules in
+    (told_last c.args.program c.args.options c.args.self.now.from records i c.loop-place.arbiter _ _ _ _ c.loop-place.invariant.0 last).1
+
+pub returns-clause-leads : goal.returns-clause-leads
+returns-clause-leads c =
+    let records = c.args.records.now in
+    let i = c.loop-place.place in
+    let last : length records ≤ i = search rules in
+    leads_last c.args.program c.args.options records i c.loop-place.arbiter c.loop-place.invariant.0.along last
+
+pub returns-in_err-go_on-clause-parts : goal.returns-in_err-go_on-clause-parts
+returns-in_err-go_on-clause-parts c =
+    let records = c.args.records.now in
+    let i = c.loop-place.place in
+    let r = c.index-records-place.result in
+    let w = c.loop-place.invariant.0.along in
+    let d = w.course in
+    let less : i < length records = search rules in
+    let len : length d.records ≡ i = ap (λ (rs : List Record). length rs) w.records_are ∙ taken records i less in
+    let p = err_from_is_err_and c.from_residual-in_err-go_on.result c.from_residual-in_err-go_on.ensures.1 in
+    rw p.1
+    (subst (λ (e : ReplayFault). PartsAs c.args.program c.args.options records e) (sym p.2)
+    (parts_as c.args.program c.args.options records d (drop (i + 1) records) (i + 1) r c.go_on.new.arbiter c.in_err-go_on.field-0.0 w.program_is w.options_are (split_at records d.records i r w.records_are less c.index-records-place.is) ((w.there).runs).told (ap (λ (n : ℕ). n + 1) (sym len))
+    (c.in_err-go_on.ensures.parts d w.there)))
