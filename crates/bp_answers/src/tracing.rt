@@ -321,7 +321,8 @@ fn make_end(alloc: Global, arbiter: &mut Arbiter, records: &[Record]) -> Result<
         return Ok(());
     };
     let last = Record::End(verdict.copy()?);
-    follow(alloc, arbiter, records.len() as u32, last)
+    follow(alloc, arbiter, records.len() as u32, last)?;
+    Ok(())
 }
 
 /// What each of these records did, from that of the number on; the last of them alone may be an end.

@@ -1,0 +1,11 @@
+use Rattle.std.proofs.Common.{◌∙◌, ◌++◌, List, ℕ, ap, string_bytes}
+use Rattle.bp_answers.proofs.Traces.{trace_told}
+use Rattle.bp_answers.proofs.tracing.trace_text.Goals as goal
+
+pub returns-clause-told : goal.returns-clause-told
+returns-clause-told c =
+    let records = c.args.records.now in
+    let program = c.args.program in
+    let options = c.args.options in
+    let walked = c.in_ok-arbiter.ensures in
+    trace_told program options c.args.from records (c.in_ok-make_end.ensures.made program options walked.leads) (string_bytes c.walk-arbiter.new.self.text) c.walk-arbiter.new.self.lost.items (string_bytes c.write_last.new.text) (string_bytes c.write_lost.new.text) walked.written walked.noted c.in_ok-write_last.ensures c.in_ok-write_lost.ensures
