@@ -3,7 +3,7 @@ pub mod Walks
 pub mod Rests
 pub mod States
 pub mod Shown
-pub mod Sights
+pub mod Seen
 pub mod Reached
 pub mod Traces
 pub mod Asks

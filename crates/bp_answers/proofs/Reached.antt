@@ -23,7 +23,7 @@ use Rattle.bp_answers.specs.declared.sights.Reached.{Reached}
 use Rattle.bp_answers.specs.inner.Resting.{plain_stop, stops_from}
 use Rattle.bp_answers.specs.inner.Traced.{SaysReached}
 use Rattle.bp_answers.proofs.Rests.{are_stops, has_is}
-use Rattle.bp_answers.proofs.Sights.{are_spotted}
+use Rattle.bp_answers.proofs.Seen.{are_spotted}
 
 says_reached : (a : PlainArbiter) (e : PlainEvent) (ss : List Stop) (budget : ℕ) (r : Reached) → IsPhased a.floor → a.floor.phase ≡ Rest → ((c : Configuration Origin) → Recounts a c → Shows (stand_in a) c.stand) →
     map plain_stop ss ≡ stops_from a.floor.base.program a.floor.options 0 (stand_in a).threads → budget ≡ a.floor.options.budget → map plain_mover r.moved.items ≡ movers_at (member a.floor.base budget) ss e → string_bytes r.interrupted ≡ interrupted_at (member a.floor.base budget) ss e →

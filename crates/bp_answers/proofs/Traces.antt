@@ -37,7 +37,7 @@ use Rattle.bp_answers.specs.inner.Led.{EndsLast, LeadsTo}
 use Rattle.bp_answers.specs.inner.Sights.{ShowsAs, did_on, since_on}
 use Rattle.bp_answers.specs.inner.Traced.{IsMade, IsReached, IsSomeStory, SaysReached, WritesDid, WritesMoment, moment_of, selected_in, words_in}
 use Rattle.bp_answers.proofs.ReasonLemmas.{recounts, selected}
-use Rattle.bp_answers.proofs.Sights.{did_is, since_is}
+use Rattle.bp_answers.proofs.Seen.{did_is, since_is}
 use Rattle.bp_answers.proofs.States.{end_behind, no_end}
 use Rattle.bp_answers.proofs.Walks.{Along, IsNoEnd, code_is, end_here, end_on, story_at}
 use Rattle.bp_replay.proofs.Tales.{one_more}

@@ -1,5 +1,5 @@
 use Rattle.std.proofs.Common.{◌<◌, ℕ, ap, rules, string_bytes, subst}
-use Rattle.bp_answers.proofs.Sights.{registered_on}
+use Rattle.bp_answers.proofs.Seen.{registered_on}
 use Rattle.bp_answers.proofs.sights.write_registered.Goals as goal
 
 pub loop-number-preserved : goal.loop-number-preserved

@@ -2,7 +2,7 @@ use Rattle.std.proofs.Common.{◌≡◌, ◌++◌, string_bytes}
 use Rattle.std.specs.Prelude.{codes}
 use Rattle.bp_explain.specs.Traces.{marked}
 use Rattle.bp_answers.specs.inner.Sights.{sights_on}
-use Rattle.bp_answers.proofs.Sights.{sight_words}
+use Rattle.bp_answers.proofs.Seen.{sight_words}
 use Rattle.bp_answers.proofs.sights.write_registered.Given as goal
 
 abbrev pub invariant-loop-number : goal.invariant-loop-number
