@@ -167,14 +167,14 @@ abbrev pub sight_words : PlainArbiter → Sight → List ℕ
 sight_words a x = quoted_text x.0 ++ spot_words (is_away a.phase) (codes " ") x.1
 
 -- one more was written
-pub registered_on : (a : PlainArbiter) (n : ℕ) (mark old new whole : List ℕ) → n < length (stand_in a).threads → new ≡ old ++ (mark ++ (quoted_text (name_in (slice_get (stand_in a).threads n)) ++ spot_on a (codes " ") n)) → old ++ marked mark (sight_words a) (sights_on a n) ≡ whole →
+pub registered_on : (a : PlainArbiter) (n : ℕ) (mark old mid new whole : List ℕ) → n < length (stand_in a).threads → mid ≡ old ++ mark → new ≡ mid ++ (quoted_text (name_in (slice_get (stand_in a).threads n)) ++ spot_on a (codes " ") n) → old ++ marked mark (sight_words a) (sights_on a n) ≡ whole →
     new ++ marked (codes ", ") (sight_words a) (sights_on a (n + 1)) ≡ whole
-registered_on a n mark old new whole less written h =
+registered_on a n mark old mid new whole less marks written h =
     let rest = marked (codes ", ") (sight_words a) (sights_on a (n + 1)) in
-    let x = (name_in (slice_get (stand_in a).threads n), line_on a n) in
-    ap (λ (t : List ℕ). t ++ rest) written
-    ∙ append_assoc old (mark ++ sight_words a x) rest
-    ∙ ap (λ (t : List ℕ). old ++ t) (append_assoc mark (sight_words a x) rest)
+    let x : Sight = (name_in (slice_get (stand_in a).threads n), line_on a n) in
+    ap (λ (t : List ℕ). t ++ rest) (written ∙ ap (λ (t : List ℕ). t ++ sight_words a x) marks)
+    ∙ append_assoc (old ++ mark) (sight_words a x) rest
+    ∙ append_assoc old mark (sight_words a x ++ rest)
     ∙ ap (λ (xs : List Sight). old ++ marked mark (sight_words a) xs) (sym (sights_next a n less))
     ∙ h
 

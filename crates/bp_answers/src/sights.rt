@@ -6,7 +6,7 @@ ghost use Rattle.bp_arbiter.specs.Arbiters.{stand_in};
 ghost use Rattle.bp_floor.specs.declared.phase.Phase.TheVariants as phase;
 ghost use Rattle.bp_explain.specs.Traced.{plain_mover};
 ghost use Rattle.bp_explain.specs.Traces.{is_nobody, marked, moved_text, registered_text, said_line, said_text, source_text, spot_text};
-ghost use Rattle.bp_answers.specs.inner.Sights.{did_on, is_away, line_in, sights_on, since_on, spot_on};
+ghost use Rattle.bp_answers.specs.inner.Sights.{did_on, is_away, line_in, mark_of, sights_on, since_on, spot_on};
 
 use bp_arbiter::{Arbiter, Floor, Phase};
 use bp_explain::Mover;
@@ -85,6 +85,17 @@ fn write_spot(
     }
 }
 
+/// Writes a word before the first, and a comma before later ones.
+pub(crate) fn write_mark(later: bool, word: &str, text: &mut String) -> Result<(), Memory>
+    ensures { OnOk result (string_bytes text.new
+        ≡ string_bytes text.old ++ mark_of later word.now) }
+{
+    if later {
+        return text.push_str(", ");
+    }
+    text.push_str(word)
+}
+
 /// Writes those that went on, each with where it stands now.
 fn write_movers(
     alloc: Global,
@@ -97,12 +108,12 @@ fn write_movers(
         ++ marked (codes "; moved ") (λ m. m.1 ++ spot_on arbiter.now (codes "-") m.0)
         (map plain_mover movers.now)) }
 {
-    let mut mark = "; moved ";
+    let mut later = false;
     for mover in movers {
-        text.push_str(mark)?;
+        write_mark(later, "; moved ", text)?;
         text.push_str(mover.words.as_str())?;
         write_spot(alloc, arbiter, "-", mover.number, text)?;
-        mark = ", ";
+        later = true;
     }
     Ok(())
 }
@@ -125,22 +136,20 @@ fn write_moved(
     write_movers(alloc, arbiter, reached.moved.as_slice(), text)
 }
 
-/// Writes the name of the b-thread of this number after a mark, and where it stands.
+/// Writes the name of the b-thread of this number, and where it stands.
 fn write_sight(
     alloc: Global,
     arbiter: &Arbiter,
-    mark: &str,
     number: u32,
     text: &mut String,
 ) -> Result<(), Memory>
     requires sound { arbiter.now.broken ≡ false }
     requires there { number < length (stand_in arbiter.now).threads }
-    ensures { OnOk result (string_bytes text.new ≡ string_bytes text.old ++ (mark.now
+    ensures { OnOk result (string_bytes text.new ≡ string_bytes text.old
         ++ (quoted_text (name_in (slice_get (stand_in arbiter.now).threads number))
-        ++ spot_on arbiter.now (codes " ") number))) }
+        ++ spot_on arbiter.now (codes " ") number)) }
 {
     let name = quoted(alloc, arbiter.floor().name_of(number))?;
-    text.push_str(mark)?;
     text.push_str(name.as_str())?;
     write_spot(alloc, arbiter, " ", number, text)
 }
@@ -159,10 +168,11 @@ fn write_registered(
     // For the proof: what the arbiter keeps.
     arbiter.keeps();
     let count = arbiter.floor().count() as u32;
-    let mut mark = "; registered ";
+    let mut later = false;
     for number in first..count {
-        write_sight(alloc, arbiter, mark, number, text)?;
-        mark = ", ";
+        write_mark(later, "; registered ", text)?;
+        write_sight(alloc, arbiter, number, text)?;
+        later = true;
     }
     Ok(())
 }

@@ -18,7 +18,7 @@ ghost use Rattle.bp_answers.specs.inner.Led.{EndsLast, LeadsTo, PartsAs};
 ghost use Rattle.bp_answers.specs.inner.Traced.{IsMade, IsSomeStory, SaysReached, WritesDid, WritesMoment, selected_in, words_in};
 
 use crate::resting::stops;
-use crate::sights::{Reached, write_did, write_since};
+use crate::sights::{Reached, write_did, write_mark, write_since};
 use crate::walking::{come_to_rest, said, settle_lines};
 use bp_arbiter::{Arbiter, Phase};
 use bp_explain::{Scene, interrupted_words, movers};
@@ -296,11 +296,12 @@ fn write_lost(alloc: Global, lost: &[u32], text: &mut String) -> Result<(), Memo
     if lost.is_empty() {
         return Ok(());
     }
-    let mut mark = "moved nobody: records ";
+    let mut later = false;
     for number in lost {
-        let words = format!(in alloc; "{mark}{number}")?;
+        write_mark(later, "moved nobody: records ", text)?;
+        let words = format!(in alloc; "{number}")?;
         text.push_str(words.as_str())?;
-        mark = ", ";
+        later = true;
     }
     text.push_str("\n")
 }

@@ -39,6 +39,11 @@ line_on a n = line_in a.floor.base.program (options_in a) (slice_get (stand_in a
 abbrev pub spot_on : PlainArbiter → List ℕ → ℕ → List ℕ
 spot_on a mark n = spot_words (is_away a.phase) mark (line_on a n)
 
+-- a word before the first, and commas after
+abbrev pub mark_of : Bool → List ℕ → List ℕ
+mark_of false word = word
+mark_of true word = codes ", "
+
 -- those from this number on
 abbrev pub sights_on : PlainArbiter → ℕ → List Sight
 sights_on a n =
