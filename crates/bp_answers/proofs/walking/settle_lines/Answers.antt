@@ -40,4 +40,4 @@ returns-clause-shows c =
     let stands = t.stands [] taken here.0 here.1 in
     let there = (settled d taken c.args.arbiter.now c.settle.new.arbiter b lines (said_of (verdict_of b.records) lines) w c.in_ok-settle.ensures.settles c.in_ok-settle.ensures.settled t.taken c.keeps.ensures.exact t.ground t.options t.records t.phase t.stands
     (is_said b lines keeps.complete)).there in
-    shows_as d b stands.told there stands.whole stands.story keeps.phased keeps.kept c._floor.ensures.shows
+    shows_as d b stands.told there stands.whole stands.story keeps.phased keeps.kept c.floor-floor.ensures.shows

@@ -3,8 +3,8 @@ use Rattle.std.proofs.lemmas.Result.{on_ok_weaker}
 use Rattle.bp_answers.proofs.Traces.{goes_by, passes_by}
 use Rattle.bp_answers.proofs.tracing.Trace.go_on.Goals as goal
 
-pub returns-then-number-lt-self-from-clause-written : goal.returns-then-number-lt-self-from-clause-written
-returns-then-number-lt-self-from-clause-written c =
+pub returns-then-number-self-clause-written : goal.returns-then-number-self-clause-written
+returns-then-number-self-clause-written c =
     let less : c.args.number < c.args.self.now.from = search rules in
     on_ok_weaker c.pass.result (λ made d t program. passes_by d c.args.found.now c.args.number c.args.self.now.from c.pass.new.arbiter (string_bytes c.args.self.now.text) c.args.self.now.lost.items less (made d t)) c.pass.ensures.made
 

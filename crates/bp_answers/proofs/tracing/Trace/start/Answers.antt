@@ -2,8 +2,8 @@ use Rattle.std.proofs.Common.{◌≡◌, ◌∙◌, ◌<◌, [], rules, string_b
 use Rattle.bp_answers.proofs.Traces.{starts, starts_later}
 use Rattle.bp_answers.proofs.tracing.Trace.start.Goals as goal
 
-pub returns-then-self-from-gt0-clause-written : goal.returns-then-self-from-gt0-clause-written
-returns-then-self-from-gt0-clause-written c =
+pub returns-then-self-gt0-clause-written : goal.returns-then-self-gt0-clause-written
+returns-then-self-gt0-clause-written c =
     let later : 0 < c.args.self.now.from = search rules in
     λ d w program. starts_later c.args.self.now.from d (string_bytes c.args.self.now.text) later
 
