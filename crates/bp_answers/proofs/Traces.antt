@@ -300,19 +300,19 @@ module _ (program : PlainProgram) (options : PlainOptions) (from : ℕ) where
 
   -- ---- the text
 
-  pub trace_told : (records : List Record) (ended : IsSomeStory program options records) (text lost final whole : List ℕ) → text ≡ [] ++ (start_text l w from first ++ text_from 1 first (before_end records)) → lost ≡ [] ++ lost_from 1 first (before_end records) →
+  pub trace_told : (records : List Record) (ended : IsSomeStory program options records) (old none text lost final whole : List ℕ) → old ≡ [] → none ≡ [] → text ≡ old ++ (start_text l w from first ++ text_from 1 first (before_end records)) → lost ≡ none ++ lost_from 1 first (before_end records) →
       final ≡ text ++ end_text (length records) (verdict_of records) → whole ≡ final ++ lost_text lost → trace_of program options from records ≡ Some whole
   unfolding trace
-  trace_told records ended text lost final whole t n f e =
+  trace_told records ended old none text lost final whole o k t n f e =
       let start = start_text l w from first in
       let body = text_from 1 first (before_end records) in
       let end = end_text (length records) (verdict_of records) in
       ap (option_map (λ (c : Configuration Origin). start ++ (body ++ (end ++ lost_text (lost_from 1 first (before_end records)))))) ended.1
       ∙ ap (λ (x : List ℕ). Some x)
-      (ap (λ (x : List ℕ). start ++ (body ++ (end ++ lost_text x))) (sym n)
+      (ap (λ (x : List ℕ). start ++ (body ++ (end ++ lost_text x))) (sym (n ∙ ap (λ (x : List ℕ). x ++ lost_from 1 first (before_end records)) k))
       ∙ sym (append_assoc start body (end ++ lost_text lost))
       ∙ sym (append_assoc (start ++ body) end (lost_text lost))
-      ∙ ap (λ (x : List ℕ). (x ++ end) ++ lost_text lost) (sym t)
+      ∙ ap (λ (x : List ℕ). (x ++ end) ++ lost_text lost) (sym (t ∙ ap (λ (x : List ℕ). x ++ (start ++ body)) o))
       ∙ ap (λ (x : List ℕ). x ++ lost_text lost) (sym f)
       ∙ sym e)
 

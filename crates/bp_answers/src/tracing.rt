@@ -215,7 +215,8 @@ impl Trace {
         self.text.push_str("0 start")?;
         let lines = said(arbiter, lines.as_slice());
         write_since(alloc, arbiter, 0, lines, &mut self.text)?;
-        self.text.push_str("\n")
+        self.text.push_str("\n")?;
+        Ok(())
     }
 
     /// Makes these records up to an end, which is not made, and tells what they did.

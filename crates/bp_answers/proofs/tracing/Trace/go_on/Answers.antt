@@ -13,4 +13,4 @@ returns-clause-written c =
     let least : c.args.self.now.from ≤ c.args.number = search rules in
     λ d t program.
     goes_by d c.args.found.now c.args.number c.args.self.now.from c.make.new.arbiter (string_bytes c.args.self.now.text) (string_bytes c.write_numbered.new.text) (string_bytes c.make.new.self.text) (string_bytes c.push_str.new.self) c.args.self.now.lost.items c.make.new.self.lost.items least c.in_ok-write_numbered.ensures (c.in_ok-make.ensures.written d t program)
-    c.in_ok-push_str.ensures
+    c.in_ok-push_str.ensures.bytes
