@@ -321,8 +321,7 @@ module _ (program : PlainProgram) (options : PlainOptions) (from : ℕ) where
 -- the records have no end, or it was made
 pub some_story : (program : PlainProgram) (options : PlainOptions) (records : List Record) (a : PlainArbiter) → EndsLast records → verdict_of records ≡ None → LeadsTo program options (before_end records) a → IsSomeStory program options records
 some_story program options records a last none w =
-    let c = w.course in
-    (
+    let c = w.course in (
       c.told,
       ap (story (code_of program options) options) (no_end records last none ∙ sym w.records_are) ∙ story_at c program options w.program_is w.options_are ((w.there).runs).told,
     )
@@ -332,9 +331,8 @@ ended_story program options records v a b last some made w =
     let c = w.course in
     let t = (w.there).runs in
     let m = made c w.there in
-    let whole : story (code_in c) c.options (c.records ++ End v ∷ []) ≡ Some m.0 = one_more (code_in c) c.options c.records c.told (End v) t.told t.going ∙ m.1 in
-    (
+    let whole : story (code_in c) c.options (c.records ++ End v ∷ []) ≡ Some m.0 = one_more (code_in c) c.options c.records c.told (End v) t.told t.going ∙ m.1 in (
       m.0,
       ap (story (code_of program options) options) (end_behind program options records v a w last some)
-      ∙ story_at (record c { records = c.records ++ End v ∷ []; told = m.0 }) program options w.program_is w.options_are whole,
+          ∙ story_at (record c { records = c.records ++ End v ∷ []; told = m.0 }) program options w.program_is w.options_are whole,
     )

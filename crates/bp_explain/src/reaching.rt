@@ -44,7 +44,12 @@ fn is_interrupted(
 
 /// Whether the b-thread goes on at the event: it isn't interrupted, and it requests the event or waits
 /// for it.
-pub(crate) fn goes_on(alloc: Global, scene: &Scene<'_>, stop: &Stop<'_>, event: &Event) -> Result<bool, Memory>
+pub(crate) fn goes_on(
+    alloc: Global,
+    scene: &Scene<'_>,
+    stop: &Stop<'_>,
+    event: &Event,
+) -> Result<bool, Memory>
     ensures { let has = member (plain_ground scene.now.ground.now) scene.now.budget in
         IfOk result (λ b. b ≡ moves has event.now (live_of stop.now)) }
 {

@@ -50,11 +50,7 @@ pub fn movers(alloc: Global, scene: &Scene<'_>, event: &Event) -> Result<Vec<Mov
 }
 
 /// The names of those that the event interrupts, behind a word; nothing where it interrupts nobody.
-pub fn interrupted_words(
-    alloc: Global,
-    scene: &Scene<'_>,
-    event: &Event,
-) -> Result<String, Memory>
+pub fn interrupted_words(alloc: Global, scene: &Scene<'_>, event: &Event) -> Result<String, Memory>
     ensures { let has = member (plain_ground scene.now.ground.now) scene.now.budget in
         IfOk result (λ s. string_bytes s ≡ interrupted_at has scene.now.stops.now event.now) }
 {

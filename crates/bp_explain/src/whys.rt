@@ -35,7 +35,12 @@ pub struct Draws {
 }
 
 /// Writes a word and names after it; nothing where there are no names.
-pub(crate) fn write_with(alloc: Global, word: &str, names: &[&Text], text: &mut String) -> Result<(), Memory>
+pub(crate) fn write_with(
+    alloc: Global,
+    word: &str,
+    names: &[&Text],
+    text: &mut String,
+) -> Result<(), Memory>
     ensures { OnOk result (string_bytes text.new
         ≡ string_bytes text.old ++ with_words word.now (texts_in names.now)) }
 {

@@ -25,8 +25,7 @@ loop-place-init c =
     let records = c.args.records.now in
     let way = on_way c.args.program c.args.options a s.opened s.stands in
     let started = c.in_ok-start.ensures in
-    let w = along_first c.args.program c.args.options records a b s.opened (started.there (first_of Second a) [] way) started.program in
-    (
+    let w = along_first c.args.program c.args.options records a b s.opened (started.there (first_of Second a) [] way) started.program in (
       along_start c.args.program c.args.options c.args.self.now.from records a b w (string_bytes c.args.self.now.text) (string_bytes c.start.new.self.text) c.args.self.now.lost.items c.start.new.self.lost.items s.opened refl (started.written (first_of Second a) way refl) started.lost,
       started.from,
     )
@@ -47,8 +46,7 @@ loop-place-preserved c =
     let gone = c.in_ok-go_on.ensures in
     let m = subst (λ (n : ℕ). WritesMoment w.course r (i + 1) n later (string_bytes c.loop-place.self.text) (string_bytes c.go_on.new.self.text) c.loop-place.self.lost.items c.go_on.new.self.lost.items) c.loop-place.invariant.1
     (gone.written w.course w.there (w.kept ∙ sym w.program_is)) in
-    let next = along_on c.args.program c.args.options records i r a later w less c.index-records-place.is going m.made.told m.made.there gone.program in
-    (
+    let next = along_on c.args.program c.args.options records i r a later w less c.index-records-place.is going m.made.told m.made.there gone.program in (
       along_more c.args.program c.args.options from records i r a later (string_bytes c.loop-place.self.text) c.loop-place.self.lost.items _ _ (string_bytes c.go_on.new.self.text) c.go_on.new.self.lost.items t less c.index-records-place.is going m next refl,
       gone.from ∙ c.loop-place.invariant.1,
     )
