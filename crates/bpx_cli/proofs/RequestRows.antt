@@ -5,7 +5,7 @@ use Rattle.bp_log.specs.Options.{PlainOptions, default_options}
 use Rattle.bp_log.specs.Parallelism.{default_parallelism}
 use Rattle.bp_log.specs.declared.options.Strategy.TheVariants.{Ordered}
 use Rattle.bpx_cli.specs.declared.request.Request.{Request}
-use Rattle.bpx_cli.specs.declared.request.Request.TheVariants.{Help, Check, State, Seeds}
+use Rattle.bpx_cli.specs.declared.request.Request.TheVariants.{Help, Check, State, Trace, Seeds}
 use Rattle.bpx_cli.specs.Requests.{request_of}
 
 abbrev p : List ℕ
@@ -88,6 +88,26 @@ zero_before = refl
 
 pub no_option : request_of (state ∷ p ∷ codes "--seed=3" ∷ []) ≡ None
 no_option = refl
+
+-- ---- traces
+
+abbrev trace_in : List ℕ → ℕ → Option ℕ → Option Request
+trace_in log from to = Some (Trace (record { log = log; from = from; to = to }))
+
+pub whole_trace : request_of (codes "trace" ∷ p ∷ []) ≡ trace_in p 0 None
+whole_trace = refl
+
+pub part_of_trace : request_of (codes "trace" ∷ p ∷ codes "3" ∷ codes "3" ∷ []) ≡ trace_in p 3 (Some 3)
+part_of_trace = refl
+
+pub trace_of_name_of_digits : request_of (codes "trace" ∷ codes "5" ∷ []) ≡ trace_in (codes "5") 0 None
+trace_of_name_of_digits = refl
+
+pub trace_from_one_number : request_of (codes "trace" ∷ p ∷ codes "3" ∷ []) ≡ None
+trace_from_one_number = refl
+
+pub trace_backwards : request_of (codes "trace" ∷ p ∷ codes "3" ∷ codes "2" ∷ []) ≡ None
+trace_backwards = refl
 
 -- ---- seeds
 
