@@ -53,7 +53,7 @@ in_course c holds h = subst (λ (l : Code Origin PlainSet). holds l (words_in c)
 
 -- ---- a record that is made
 
-pub is_made : (c : Course) (r : Record) (b later : PlainArbiter) (m : Makes c r b) → IsThere (onto c r m.0) later → IsMade c r later
+abbrev pub is_made : (c : Course) (r : Record) (b later : PlainArbiter) (m : Makes c r b) → IsThere (onto c r m.0) later → IsMade c r later
 is_made c r b later m t = record { told = m.0; led_there = m.1; there = t }
 
 -- where the run has ended it makes no selection

@@ -93,7 +93,7 @@ end_on (Eof j) rs h = refl
 end_on (Sel e) rs h = refl
 end_on (End v) rs h = absurd (cc)
 
-end_here : (r : Record) (rs : List Record) (v : Verdict) → verdict_in r ≡ Some v → before_end (r ∷ rs) ≡ []
+pub end_here : (r : Record) (rs : List Record) (v : Verdict) → verdict_in r ≡ Some v → before_end (r ∷ rs) ≡ []
 end_here (In j e) rs v h = absurd (cc)
 end_here (Bad j n) rs v h = absurd (cc)
 end_here (Eof j) rs v h = absurd (cc)
