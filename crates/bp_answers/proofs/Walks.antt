@@ -123,7 +123,7 @@ pub record Along (program : PlainProgram) (options : PlainOptions) (records : Li
 pub on_way : (program : PlainProgram) (options : PlainOptions) (a : PlainArbiter) → a ≡ opened program options → StandsFor a [] [] opening → IsOnWay (first_of Second a) [] a
 on_way program options a e s = on_way_opened Second program options a e s
 
-pub along_first : (program : PlainProgram) (options : PlainOptions) (records : List Record) (a b : PlainArbiter) → a ≡ opened program options → IsThere (first_of Second a) b → b.floor.base.program ≡ a.floor.base.program → Along program options records 0 b
+abbrev pub along_first : (program : PlainProgram) (options : PlainOptions) (records : List Record) (a b : PlainArbiter) → a ≡ opened program options → IsThere (first_of Second a) b → b.floor.base.program ≡ a.floor.base.program → Along program options records 0 b
 along_first program options records a b e t k = record {
   course = first_of Second a;
   program_is = ap (λ (x : PlainArbiter). x.floor.base.program) e;
@@ -139,7 +139,7 @@ taken_more rs i r h e =
     let n : i + 1 ≡ suc i = omega arith in
     ap (λ (k : ℕ). take k rs) n ∙ take-suc rs i r h ∙ ap (λ (x : Record). take i rs ++ x ∷ []) (sym e)
 
-pub along_on : (program : PlainProgram) (options : PlainOptions) (records : List Record) (i : ℕ) (r : Record) (a later : PlainArbiter) (w : Along program options records i a) → i < length records → r ≡ get_or records i r → IsNoEnd r → (d : Configuration Origin) →
+abbrev pub along_on : (program : PlainProgram) (options : PlainOptions) (records : List Record) (i : ℕ) (r : Record) (a later : PlainArbiter) (w : Along program options records i a) → i < length records → r ≡ get_or records i r → IsNoEnd r → (d : Configuration Origin) →
     IsThere (onto w.course r d) later → later.floor.base.program ≡ a.floor.base.program → Along program options records (i + 1) later
 along_on program options records i r a later w less is none d t same =
     let next : take (i + 1) records ≡ take i records ++ r ∷ [] = taken_more records i r less is in

@@ -1,5 +1,5 @@
 //! What each record of a run did, in words.
-ghost use Rattle.std.specs.Prelude.{◌≡◌, ◌≤◌, ◌++◌, ◌∷◌, [], List, if◌then◌else◌, length, flat_map, option_map, None, Some, Err, IfOk, IfErr, OnOk, string_bytes};
+ghost use Rattle.std.specs.Prelude.{◌≡◌, ◌≤◌, ◌++◌, ◌∷◌, [], List, false, if◌then◌else◌, length, flat_map, option_map, None, Some, Err, IfOk, IfErr, OnOk, string_bytes};
 ghost use Rattle.js_program.specs.PlainProgram.{PlainProgram};
 ghost use Rattle.bp_log.specs.Logs.{record_text};
 ghost use Rattle.bp_log.specs.Options.{PlainOptions};

@@ -12,5 +12,5 @@ returns-clause-written c =
     let settled = c.in_ok-lines.ensures in
     let first : c.args.self.now.from ≡ 0 = search rules in
     λ d w program.
-    starts c.args.self.now.from d c.args.arbiter.now c.settle_lines-lines.new.arbiter c.said.result.now (string_bytes c.args.self.now.text) (string_bytes c.push_str.new.self) (string_bytes c.write_since.new.text) (string_bytes c.push_str-2.new.self) first w (settled.there d [] w) (settled.program ∙ program)
-    (settled.shows d [] w) (settled.lines d [] c.said.result.now w c.said.ensures) c.in_ok-push_str.ensures.bytes c.in_ok-write_since.ensures c.in_ok-push_str-2.ensures.bytes
+    starts c.args.self.now.from d c.args.arbiter.now c.settle_lines.new.arbiter c.said-lines.result.now (string_bytes c.args.self.now.text) (string_bytes c.push_str.new.self) (string_bytes c.write_since.new.text) (string_bytes c.push_str-2.new.self) first w (settled.there d [] w) (settled.program ∙ program)
+    (settled.shows d [] w) (settled.lines d [] c.said-lines.result.now w c.said-lines.ensures) c.in_ok-push_str.ensures.bytes c.in_ok-write_since.ensures c.in_ok-push_str-2.ensures.bytes
