@@ -1,12 +1,13 @@
-use Rattle.std.proofs.Common.{◌≡◌, ◌∙◌, ◌++◌, ◌∷◌, [], Bool, Err, ap, refl, rules, string_bytes, subst, sym}
+use Rattle.std.proofs.Common.{◌≡◌, ◌∙◌, ◌++◌, ◌∷◌, [], Bool, List, Err, ap, refl, rules, string_bytes, subst, sym}
 use Rattle.std.specs.Prelude.{if◌then◌else◌}
 use Rattle.std.proofs.lemmas.Result.{err_from_is_err_and, on_ok_weaker}
 use Rattle.js_data.specs.Event.{PlainEvent}
 use Rattle.bp_log.specs.declared.record.Record.TheVariants.{Sel}
+use Rattle.bp_log.specs.declared.trace.Line.{Line}
 use Rattle.bp_floor.specs.declared.phase.Phase.TheVariants.{Rest}
 use Rattle.bp_replay.specs.declared.fault.ReplayFault.{ReplayFault}
 use Rattle.bp_replay.specs.Courses.{Course}
-use Rattle.bp_replay.specs.Following.{Followed, IsThere, onto}
+use Rattle.bp_replay.specs.Following.{Followed, IsSaid, IsThere, onto}
 use Rattle.bp_answers.specs.inner.Traced.{SaysReached, WritesDid}
 use Rattle.bp_answers.proofs.Traces.{none_selected, selects}
 use Rattle.bp_answers.proofs.Walks.{makes_on}
@@ -40,7 +41,7 @@ returns-clause-written c =
     subst (λ (x : PlainEvent). WritesDid d (Sel x) c.args.number later before after c.args.self.now.lost.items c.note_if.new.numbers.items) c.in_ok-copy.ensures
     (selects d a b later c.in_ok-copy.field-0 c.args.number c.in_ok-reached.reached c.said-lines.result.now before after c.args.self.now.lost.items c.note_if.new.numbers.items t rest program (settled.program ∙ c.in_ok-follow.ensures.program ∙ program)
     (subst (λ (x : PlainEvent). SaysReached a x c.in_ok-reached.reached) (sym c.in_ok-copy.ensures) c.in_ok-reached.ensures) m w (settled.there (onto d r m.0) d.told.stand.lines w) (settled.shows (onto d r m.0) d.told.stand.lines w)
-    (settled.lines (onto d r m.0) d.told.stand.lines c.said-lines.result.now w c.said-lines.ensures) c.in_ok-write_did.ensures
+    (settled.lines (onto d r m.0) d.told.stand.lines c.said-lines.result.now w (subst (λ (xs : List Line). IsSaid c.settle_lines.new.arbiter xs c.said-lines.result.now) c.as_slice.ensures c.said-lines.ensures)) c.in_ok-write_did.ensures
     (c.in_ok-note_if.ensures ∙ ap (λ (b : Bool). c.args.self.now.lost.items ++ (if b then c.args.number ∷ [] else [])) c.is_nobody.ensures))
 
 pub returns-in_err-follow-clause-parts : goal.returns-in_err-follow-clause-parts
