@@ -5,6 +5,7 @@ use Rattle.std.proofs.lemmas.Bool.{and_parts, lt-ltb, le-leb, leb-true}
 use Rattle.std.proofs.lemmas.Fmt.{decimal_nonempty, digits_decimal, digits_value-decimal, length-decimal-le}
 use Rattle.std.specs.Cmp.Derive.{both_true}
 use Rattle.bp_log.specs.Logs.{strategy_name, strategy_at, wait_name, wait_at}
+use Rattle.bp_log.specs.Options.{default_options}
 use Rattle.bp_log.specs.declared.options.Strategy.{Strategy}
 use Rattle.bp_log.specs.declared.options.Strategy.TheVariants as strategy
 use Rattle.bp_log.specs.declared.limits.TheConstants.{MOST_BUDGET, MOST_STEPS, MOST_WORKERS, MOST_SLICE}
@@ -16,14 +17,15 @@ use Rattle.bp_args.specs.Keys.{keys}
 use Rattle.bp_args.specs.declared.command.Command.{Command}
 use Rattle.bp_args.specs.declared.command.Command.TheVariants as command
 use Rattle.bp_args.specs.declared.command.Run.{Run as PlainRun}
+use Rattle.bp_args.specs.declared.command.Audit.{Audit as PlainAudit}
 use Rattle.bp_args.specs.declared.command.TheConstants.{MOST_LARGE}
 use Rattle.bp_args.specs.declared.said.Said.{Said}
 use Rattle.bp_args.specs.declared.said.Waiting.TheVariants.{Any}
 use Rattle.bp_args.specs.declared.verb.Verb.TheVariants as verb
 use Rattle.bp_args.specs.Said.{nothing_said, number_word, set}
-use Rattle.bp_args.specs.Command.{in_range, run_with, large_of, command_with}
+use Rattle.bp_args.specs.Command.{in_range, run_with, audit_with, large_of, command_with}
 use Rattle.bp_args.specs.inner.Normal.{said_of, set_if, said_from, command_by, command_from}
-use Rattle.bp_args.proofs.Within.{IsRun, IsWithin, is_some_text}
+use Rattle.bp_args.proofs.Within.{IsRun, IsAudit, IsWithin, is_some_text}
 
 -- a number is read from its text
 number_back : (most n : ℕ) → most < 2 ^ 64 → nat_le n most ≡ true → number_word most (decimal n) ≡ Some n
@@ -139,6 +141,30 @@ run_back r h =
 run_taken : (r : PlainRun) → IsRun r → command_with verb.Run (record (said_by r) { names = r.program ∷ r.injectors }) ≡ run_with (said_by r) r.program r.injectors
 run_taken r h = ap (λ b. if b then run_with (said_by r) r.program r.injectors else None) h.few
 
+-- ---- an audit
+
+abbrev audit_said : PlainAudit → Said
+audit_said a = record nothing_said { budget = Some a.options.budget; steps = Some a.options.steps }
+
+abbrev onward_audit : PlainAudit → List Key → Option Said → Option Said
+onward_audit a ks = option_and_then (λ t. said_from t (said_of (command.Audit a)) ks)
+
+audit_values_said : (a : PlainAudit) → IsAudit a → said_from nothing_said (said_of (command.Audit a)) keys ≡ Some (audit_said a)
+audit_values_said a h =
+    let b = and_parts (nat_le 1 a.options.budget) _ h.options in
+    let c = and_parts (nat_le a.options.budget MOST_BUDGET) _ b.1 in
+    let d = and_parts (nat_le 1 a.options.steps) (nat_le a.options.steps MOST_STEPS) c.1 in
+    let one = record nothing_said { budget = Some a.options.budget } in
+    ap (onward_audit a (Steps ∷ Workers ∷ Slice ∷ Wait ∷ [])) (budget_said nothing_said a.options.budget refl (less a.options.budget MOST_BUDGET most_64 c.0 (omega arith)))
+    ∙ ap (onward_audit a (Workers ∷ Slice ∷ Wait ∷ [])) (steps_said one a.options.steps refl (less a.options.steps MOST_STEPS most_32 d.1 (omega arith)))
+
+audit_back : (a : PlainAudit) → IsAudit a → audit_with (audit_said a) a.program a.trace ≡ Some (command.Audit a)
+audit_back a h =
+    ap (λ b. if b then Some (command.Audit (record a { options = record default_options { budget = a.options.budget; steps = a.options.steps } })) else None) h.options
+    ∙ ap (λ o. Some (command.Audit (record a { options = o }))) (sym h.others)
+
+-- ---- each command
+
 large_back : (n : ℕ) → nat_le 1 n ≡ true → nat_le n MOST_LARGE ≡ true → large_of (decimal n) ≡ Some n
 large_back n h k = rw (number_back MOST_LARGE n (omega arith) k, h) refl
 
@@ -148,4 +174,5 @@ back (command.Run r) h = ap (option_and_then (λ s. command_by s (said_of (comma
 back (command.Replay log) h = refl
 back (command.Accept program) h = refl
 back (command.Migrate log) h = refl
+back (command.Audit a) h = ap (option_and_then (λ s. command_by s (said_of (command.Audit a)).words)) (audit_values_said a h) ∙ audit_back a h
 back (command.Large n) h = ap (option_map command.Large) (large_back n h.0 h.1)

@@ -7,7 +7,7 @@ use Rattle.bp_log.specs.Parallelism.{PlainParallelism, default_parallelism}
 use Rattle.bp_log.specs.declared.options.Strategy.TheVariants.{Ordered}
 use Rattle.bp_args.specs.inner.NormalWords.{normal_words}
 use Rattle.bp_args.specs.declared.command.Command.{Command}
-use Rattle.bp_args.specs.declared.command.Command.TheVariants.{Run, Replay, Accept, Large, Migrate}
+use Rattle.bp_args.specs.declared.command.Command.TheVariants.{Run, Replay, Accept, Large, Migrate, Audit}
 use Rattle.bp_args.specs.Command.{command_of}
 use Rattle.bp_args.specs.inner.Normal.{said_of}
 
@@ -77,6 +77,18 @@ migrate = refl
 pub large : command_of (codes "large" ∷ codes "4000" ∷ []) ≡ Some (Large 4_000)
 large = refl
 
+abbrev audit_q : PlainOptions → Command
+audit_q options = Audit (record { program = p; trace = q; options = options })
+
+pub audit : command_of (codes "audit" ∷ p ∷ q ∷ []) ≡ Some (audit_q default_options)
+audit = refl
+
+pub audit_limits : command_of (codes "audit" ∷ codes "--budget" ∷ codes "2" ∷ p ∷ codes "--steps=3" ∷ q ∷ []) ≡ Some (audit_q (record default_options { budget = 2; steps = 3 }))
+audit_limits = refl
+
+pub audit_dashes : command_of (codes "audit" ∷ p ∷ codes "--" ∷ codes "--steps" ∷ []) ≡ Some (Audit (record { program = p; trace = codes "--steps"; options = default_options }))
+audit_dashes = refl
+
 -- ---- no commands
 
 pub nothing : command_of [] ≡ None
@@ -130,6 +142,18 @@ wait_of_a_migration = refl
 pub two_to_migrate : command_of (codes "migrate" ∷ p ∷ q ∷ []) ≡ None
 two_to_migrate = refl
 
+pub no_trace : command_of (codes "audit" ∷ p ∷ []) ≡ None
+no_trace = refl
+
+pub two_traces : command_of (codes "audit" ∷ p ∷ q ∷ q ∷ []) ≡ None
+two_traces = refl
+
+pub seed_of_an_audit : command_of (codes "audit" ∷ codes "--seed=1" ∷ p ∷ q ∷ []) ≡ None
+seed_of_an_audit = refl
+
+pub no_steps : command_of (codes "audit" ∷ codes "--steps=0" ∷ p ∷ q ∷ []) ≡ None
+no_steps = refl
+
 pub too_many : command_of (codes "run" ∷ p ∷ q ∷ sixteen) ≡ None
 too_many = refl
 
@@ -148,6 +172,10 @@ normal_run = refl
 pub normal_injectors : normal_words (said_of (run_with_all (q ∷ []) (Some (codes "l")))) ≡ codes "--log=l" ∷ codes "--strategy=simple" ∷ codes "--seed=0" ∷ codes "--budget=1000000" ∷ codes "--steps=100000" ∷ codes "--workers=4" ∷ codes "--slice=10000" ∷ codes "--wait=yes" ∷ codes "--" ∷ codes "run" ∷ p ∷ q ∷ []
 unfolding digits
 normal_injectors = refl
+
+pub normal_audit : normal_words (said_of (audit_q (record default_options { steps = 7 }))) ≡ codes "--budget=1000000" ∷ codes "--steps=7" ∷ codes "--" ∷ codes "audit" ∷ p ∷ q ∷ []
+unfolding digits
+normal_audit = refl
 
 pub normal_large : normal_words (said_of (Large 7)) ≡ codes "--" ∷ codes "large" ∷ codes "7" ∷ []
 unfolding digits

@@ -1,15 +1,18 @@
 -- What is known of each command that words are.
 use Rattle.std.proofs.Common.{◌≡◌, ℕ, true, false, List, [], ◌∷◌, length, Option, Some, None, option_map, option_and_then, Bool, refl, subst}
-use Rattle.std.specs.Prelude.{◌&&◌, nat_lt, nat_le, if◌then◌else◌, unwrap_or, codes}
+use Rattle.std.specs.Prelude.{◌&&◌, not, nat_lt, nat_le, if◌then◌else◌, unwrap_or, codes}
+use Rattle.std.specs.Option.{is_some}
 use Rattle.std.specs.Str.{all_ascii_digits, bytes_eq}
 use Rattle.std.proofs.lemmas.Bool.{and_parts}
 use Rattle.bp_log.specs.Logs.{strategy_at, wait_at}
+use Rattle.bp_log.specs.Options.{default_options}
 use Rattle.bp_reading.specs.Words.{value_on, most_32, most_64}
 use Rattle.bp_args.specs.declared.key.Key.{Key}
 use Rattle.bp_args.specs.declared.key.Key.TheVariants.{Log, Strategy, Seed, Budget, Steps, Workers, Slice, Wait}
 use Rattle.bp_args.specs.declared.command.Command.{Command}
 use Rattle.bp_args.specs.declared.command.Command.TheVariants as command
 use Rattle.bp_args.specs.declared.command.Run.{Run as PlainRun}
+use Rattle.bp_args.specs.declared.command.Audit.{Audit as PlainAudit}
 use Rattle.bp_args.specs.declared.command.TheConstants.{MOST_LARGE}
 use Rattle.bp_args.specs.declared.said.TheConstants.{MOST_DIGITS}
 use Rattle.bp_args.specs.declared.said.Said.{Said}
@@ -19,7 +22,7 @@ use Rattle.bp_args.specs.declared.verb.Verb.{Verb}
 use Rattle.bp_args.specs.declared.verb.Verb.TheVariants as verb
 use Rattle.bp_args.specs.Verbs.{verb_at, allows, takes}
 use Rattle.bp_args.specs.Said.{nothing_said, said_on, step, step_at, option_in, parts_at, key_of, name, is_name, set, once, some_text, number_word, is_whole, only}
-use Rattle.bp_args.specs.Command.{options_of, in_range, parallelism_of, parallelism_in_range, is_apart, run_with, command_on, command_for, command_with, command_behind, command_of}
+use Rattle.bp_args.specs.Command.{options_of, in_range, parallelism_of, parallelism_in_range, is_apart, run_with, audit_with, command_on, command_for, command_with, command_behind, command_of}
 
 -- ---- what words say
 
@@ -118,12 +121,18 @@ pub record IsRun (r : PlainRun) : Type 0 where
   pub apart : is_apart (r.program ∷ r.injectors) r.log ≡ true
   pub log : is_some_text r.log ≡ true
 
+-- what an audit has no option for is as where nothing is said
+pub record IsAudit (a : PlainAudit) : Type 0 where
+  pub options : in_range a.options ≡ true
+  pub others : a.options ≡ record default_options { budget = a.options.budget; steps = a.options.steps }
+
 -- the numbers are in their ranges, and the log has a name of its own
 abbrev pub IsWithin : Command → Type 0
 IsWithin (command.Run r) = IsRun r
 IsWithin (command.Replay log) = Unit {0}
 IsWithin (command.Accept program) = Unit {0}
 IsWithin (command.Migrate log) = Unit {0}
+IsWithin (command.Audit a) = IsAudit a
 IsWithin (command.Large n) = (nat_le 1 n ≡ true) × (nat_le n MOST_LARGE ≡ true)
 
 abbrev Within : Option Command → Type 0
@@ -170,6 +179,43 @@ run_within s program injectors h few =
       log = h.log;
     })
 
+-- ---- an audit
+
+unsaid : {A : Type 0} (o : Option A) → not (is_some o) ≡ true → o ≡ None
+unsaid None h = refl
+unsaid (Some x) h = cc
+
+-- but for budget and steps nothing is said
+record IsUnsaid (s : Said) : Type 0 where
+  pub strategy : s.strategy ≡ None
+  pub seed : s.seed ≡ None
+  pub wait : s.wait ≡ None
+
+is_unsaid : (s : Said) → only (allows verb.Audit) s ≡ true → IsUnsaid s
+is_unsaid s h =
+    let log = and_parts (not (is_some s.log)) _ h in
+    let strategy = and_parts (not (is_some s.strategy)) _ log.1 in
+    let seed = and_parts (not (is_some s.seed)) _ strategy.1 in
+    let workers = and_parts (not (is_some s.workers)) _ seed.1 in
+    let slice = and_parts (not (is_some s.slice)) _ workers.1 in
+    let wait = and_parts (not (is_some s.wait)) _ slice.1 in
+    record {
+      strategy = unsaid s.strategy strategy.0;
+      seed = unsaid s.seed seed.0;
+      wait = unsaid s.wait wait.0;
+    }
+
+audit_within : (s : Said) (program trace : List ℕ) → only (allows verb.Audit) s ≡ true → Within (audit_with s program trace)
+audit_within s program trace h =
+    let u = is_unsaid s h in
+    if_within (in_range (options_of s 0)) (Some (command.Audit (record { program = program; trace = trace; options = options_of s 0 }))) (λ t.
+    record {
+      options = t;
+      others = rw (u.strategy, u.seed, u.wait) refl;
+    })
+
+-- ---- each command
+
 some_threads : (b : Bool) (n : ℕ) → (b ≡ true → IsWithin (command.Large n)) → Within (option_map command.Large (if b then Some n else None))
 some_threads true n h = h refl
 some_threads false n h = tt
@@ -178,16 +224,18 @@ threads_within : (o : Option ℕ) → Capped MOST_LARGE o → Within (option_map
 threads_within None h = tt
 threads_within (Some n) h = some_threads (nat_le 1 n) n (λ t. (t, h))
 
-on_within : (v : Verb) (s : Said) (name : List ℕ) (more : List (List ℕ)) → Holds s → takes v (length (name ∷ more)) ≡ true → Within (command_on v s name more)
-on_within verb.Run s program injectors h t = run_within s program injectors h t
-on_within verb.Replay s log more h t = tt
-on_within verb.Accept s program more h t = tt
-on_within verb.Migrate s log more h t = tt
-on_within verb.Large s number more h t = threads_within (number_word MOST_LARGE number) (number_capped MOST_LARGE number)
+on_within : (v : Verb) (s : Said) (name : List ℕ) (more : List (List ℕ)) → Holds s → only (allows v) s ≡ true → takes v (length (name ∷ more)) ≡ true → Within (command_on v s name more)
+on_within verb.Run s program injectors h k t = run_within s program injectors h t
+on_within verb.Replay s log more h k t = tt
+on_within verb.Accept s program more h k t = tt
+on_within verb.Migrate s log more h k t = tt
+on_within verb.Audit s program [] h k t = tt
+on_within verb.Audit s program (trace ∷ more) h k t = audit_within s program trace k
+on_within verb.Large s number more h k t = threads_within (number_word MOST_LARGE number) (number_capped MOST_LARGE number)
 
-for_within : (v : Verb) (s : Said) (names : List (List ℕ)) → Holds s → takes v (length names) ≡ true → Within (command_for v s names)
-for_within v s [] h t = tt
-for_within v s (name ∷ more) h t = on_within v s name more h t
+for_within : (v : Verb) (s : Said) (names : List (List ℕ)) → Holds s → only (allows v) s ≡ true → takes v (length names) ≡ true → Within (command_for v s names)
+for_within v s [] h k t = tt
+for_within v s (name ∷ more) h k t = on_within v s name more h k t
 
 said_within : (f : Said → Option Command) (o : Option Said) → Kept o → ((s : Said) → Holds s → Within (f s)) → Within (option_and_then f o)
 said_within f None k h = tt
@@ -198,7 +246,8 @@ behind_within words v =
     said_within (command_with v) (said_on nothing_said words) (said_kept nothing_said words (record { log = refl; seed = tt })) (λ s h.
     if_within (is_whole s.waiting && (only (allows v) s && takes v (length s.names))) (command_for v s s.names) (λ t.
     let a = and_parts (is_whole s.waiting) _ t in
-    for_within v s s.names h (and_parts (only (allows v) s) _ a.1).1))
+    let b = and_parts (only (allows v) s) _ a.1 in
+    for_within v s s.names h b.0 b.1))
 
 words_within : (words : List (List ℕ)) → Within (command_of words)
 words_within [] = tt

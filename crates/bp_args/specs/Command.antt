@@ -66,6 +66,13 @@ run_with s program injectors =
 abbrev pub large_of : List ℕ → Option ℕ
 large_of word = option_and_then (λ n. if nat_le 1 n then Some n else None) (number_word MOST_LARGE word)
 
+-- the audit of this trace, under the options of a run without injectors
+abbrev pub audit_with : Said → List ℕ → List ℕ → Option Command
+audit_with s program trace =
+    if in_range (options_of s 0)
+    then Some (command.Audit (record { program = program; trace = trace; options = options_of s 0 }))
+    else None
+
 -- the command of this first word, with this name and those after it
 abbrev pub command_on : Verb → Said → List ℕ → List (List ℕ) → Option Command
 command_on verb.Run s program injectors = run_with s program injectors
@@ -73,6 +80,8 @@ command_on verb.Replay s log more = Some (command.Replay log)
 command_on verb.Accept s program more = Some (command.Accept program)
 command_on verb.Large s number more = option_map command.Large (large_of number)
 command_on verb.Migrate s log more = Some (command.Migrate log)
+command_on verb.Audit s program [] = None
+command_on verb.Audit s program (trace ∷ more) = audit_with s program trace
 
 abbrev pub command_for : Verb → Said → List (List ℕ) → Option Command
 command_for v s [] = None

@@ -37,6 +37,17 @@ pub struct Run {
     pub parallelism: Parallelism,
 }
 
+/// What is audited, and how.
+#[derive(Drop)]
+pub struct Audit {
+    /// The name of the program.
+    pub program: Text,
+    /// The name of the trace.
+    pub trace: Text,
+    /// Budget and steps of the free runs; all else as where nothing is said, without injectors.
+    pub options: Options,
+}
+
 /// A command.
 #[derive(Drop)]
 pub enum Command {
@@ -51,6 +62,8 @@ pub enum Command {
     Large(u32),
     /// The log of this name is written in the second version.
     Migrate(Text),
+    /// A trace is compared with the free runs of a program.
+    Audit(Audit),
 }
 
 /// Why there is not a command.
@@ -155,6 +168,25 @@ fn name_of(said: Said) -> Option<Text>
     Some(names.remove(0))
 }
 
+/// The audit of the second name as a trace of the first.
+fn audit_of(said: Said) -> Option<Command>
+    ensures { result ≡ command_for verb.Audit said said.names }
+{
+    let options = options_of(&said, 0)?;
+    let (names, _) = said.into_names();
+    let mut names = names.into_vec();
+    if names.len() < 2 {
+        return None;
+    }
+    let program = names.remove(0);
+    let trace = names.remove(0);
+    Some(Command::Audit(Audit {
+        program,
+        trace,
+        options,
+    }))
+}
+
 /// The number of b-threads, or `None` exactly where the word is not a number from 1 to the most.
 fn large_of(word: &Text) -> Option<u32>
     ensures { result ≡ large_of word.now }
@@ -178,6 +210,7 @@ fn command_for(verb: Verb, said: Said) -> Option<Command>
         Verb::Accept => Some(Command::Accept(name_of(said)?)),
         Verb::Large => Some(Command::Large(large_of(&name_of(said)?)?)),
         Verb::Migrate => Some(Command::Migrate(name_of(said)?)),
+        Verb::Audit => audit_of(said),
     }
 }
 

@@ -10,5 +10,5 @@ mod telling;
 mod values;
 mod verb;
 
-pub use command::{Command, MOST_LARGE, Run, Usage, read};
+pub use command::{Audit, Command, MOST_LARGE, Run, Usage, read};
 pub use values::Words;

@@ -5,7 +5,7 @@ ghost use Rattle.bp_args.specs.declared.command.Command.TheVariants as command;
 ghost use Rattle.bp_args.specs.Verbs.{verb_name};
 ghost use Rattle.bp_args.specs.inner.Normal.{said_of as said_by, bare_values};
 
-use crate::command::{Command, Run};
+use crate::command::{Audit, Command, Run};
 use crate::values::{Values, Words, text_of};
 use crate::verb::Verb;
 use bp_log::Memory;
@@ -73,6 +73,22 @@ fn run_values(alloc: Global, run: Run) -> Result<Values, Memory>
     })
 }
 
+/// What an audit says: its budget and its steps, defaults written out.
+fn audit_values(alloc: Global, audit: Audit) -> Result<Values, Memory>
+    ensures { IfOk result (λ v. v ≡ said_by (command.Audit audit)) }
+{
+    let Audit {
+        program,
+        trace,
+        options,
+    } = audit;
+    let mut values = bare_values(alloc, Verb::Audit, program)?;
+    values.words.push(trace)?;
+    values.budget = Some(number_text(alloc, options.budget())?);
+    values.steps = Some(number_text(alloc, u64::from(options.steps()))?);
+    Ok(values)
+}
+
 /// What a command says.
 fn said_of(alloc: Global, command: Command) -> Result<Values, Memory>
     ensures { IfOk result (λ v. v ≡ said_by command) }
@@ -85,6 +101,7 @@ fn said_of(alloc: Global, command: Command) -> Result<Values, Memory>
             bare_values(alloc, Verb::Large, number_text(alloc, u64::from(threads))?)
         }
         Command::Migrate(log) => bare_values(alloc, Verb::Migrate, log),
+        Command::Audit(audit) => audit_values(alloc, audit),
     }
 }
 

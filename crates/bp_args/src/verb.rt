@@ -18,11 +18,13 @@ pub(crate) enum Verb {
     Large,
     /// A log is written in the second version.
     Migrate,
+    /// A trace is compared with the free runs of a program.
+    Audit,
 }
 
 impl Verb {
     /// All first words.
-    fn all() -> [Verb; 5]
+    fn all() -> [Verb; 6]
         ensures { result ≡ verbs }
     {
         [
@@ -31,6 +33,7 @@ impl Verb {
             Verb::Accept,
             Verb::Large,
             Verb::Migrate,
+            Verb::Audit,
         ]
     }
 
@@ -44,6 +47,7 @@ impl Verb {
             Verb::Accept => "accept",
             Verb::Large => "large",
             Verb::Migrate => "migrate",
+            Verb::Audit => "audit",
         }
     }
 
@@ -64,8 +68,8 @@ impl Verb {
         ensures { result ≡ allowed self key }
     {
         match (self, key) {
-            (Verb::Run, _) => true,
-            (Verb::Replay | Verb::Accept | Verb::Large | Verb::Migrate, _) => false,
+            (Verb::Run, _) | (Verb::Audit, Key::Budget | Key::Steps) => true,
+            (Verb::Replay | Verb::Accept | Verb::Large | Verb::Migrate | Verb::Audit, _) => false,
         }
     }
 
@@ -76,6 +80,7 @@ impl Verb {
         match self {
             Verb::Run => 1 + MOST_INJECTORS as usize,
             Verb::Replay | Verb::Accept | Verb::Large | Verb::Migrate => 1,
+            Verb::Audit => 2,
         }
     }
 

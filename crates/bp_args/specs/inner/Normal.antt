@@ -45,6 +45,11 @@ said_of (command.Replay log) = bare_values verb.Replay log
 said_of (command.Accept program) = bare_values verb.Accept program
 said_of (command.Large n) = bare_values verb.Large (decimal n)
 said_of (command.Migrate log) = bare_values verb.Migrate log
+said_of (command.Audit asked) = record (bare_values verb.Audit asked.program) {
+  budget = Some (decimal asked.options.budget);
+  steps = Some (decimal asked.options.steps);
+  words = verb_name verb.Audit ∷ asked.program ∷ asked.trace ∷ [];
+}
 
 -- ---- back again
 
