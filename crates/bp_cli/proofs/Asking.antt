@@ -13,12 +13,16 @@ use Rattle.bp_loading.specs.declared.unloaded.Unloaded.{Unloaded}
 use Rattle.bp_loading.specs.declared.unloaded.Unloaded.TheVariants as unloaded
 use Rattle.bp_args.specs.declared.command.Command.{Command}
 use Rattle.bp_args.specs.declared.command.Command.TheVariants as command
+use Rattle.bp_args.specs.declared.command.Audit.{Audit}
 use Rattle.bp_args.specs.declared.command.Run.{Run}
+use Rattle.bp_audit.specs.declared.fault.AuditFault.{AuditFault}
+use Rattle.bp_free.specs.declared.answer.Answer.{Answer}
 use Rattle.bp_cli.specs.declared.conclusion.Conclusion.{Conclusion}
-use Rattle.bp_cli.specs.declared.conclusion.Conclusion.TheVariants.{Refused, Ran, NotRead, NotWritten, NoMemory}
+use Rattle.bp_cli.specs.declared.conclusion.Conclusion.TheVariants.{Refused, Ran, NotRead, NotWritten, NoMemory, Audited}
 use Rattle.bp_cli.specs.Outside.{Outside}
 use Rattle.bp_cli.specs.Asking.{names_of, WasAsked, WasAskedSome, WasAskedAtMost, AsksFor, AsksIn}
-use Rattle.bp_cli.specs.inner.Outcomes.{unopened_of, unmade_of, unloaded_of}
+use Rattle.bp_cli.specs.Auditing.{AnswerEnds}
+use Rattle.bp_cli.specs.inner.Outcomes.{unopened_of, unmade_of, unanswered_of, unloaded_of}
 use Rattle.bp_cli.specs.Runs.{RunEnds}
 
 -- ---- fronts of names
@@ -127,9 +131,11 @@ pub at_most_unloaded : (name program : List ℕ) (P : Type 0) (before after : Op
 at_most_unloaded name program P before after e (inl h) = ([], prefix_nil (program ∷ []), asks_same before after h.1)
 at_most_unloaded name program P before after e (inr h) = (program ∷ [], prefix_all (program ∷ []), subst (λ (x : List ℕ). Asks before x after) e h)
 
--- a run whose program is refused asked for that alone
-pub refused_asked : (asked : Run) (before after : Option (List (List ℕ))) (refusal : Refusal) → AsksIn (Some (command.Run asked)) before after (Refused refusal) → WasAskedAtMost before asked.program after
-refused_asked asked before after refusal (names, first, h) = (names, (subst (λ (xs : List (List ℕ)). IsPrefix xs (asked.program ∷ [])) (sym first) (prefix_all (asked.program ∷ []))), h)
+-- a command whose program is refused asked for that alone
+pub refused_asked : (c : Command) (program : List ℕ) (rest : List (List ℕ)) (before after : Option (List (List ℕ))) (refusal : Refusal) → names_of c ≡ program ∷ rest → AsksIn (Some c) before after (Refused refusal) → WasAskedAtMost before program after
+refused_asked c program rest before after refusal e (names, first, h) =
+    let own : names ≡ program ∷ [] = first ∙ ap (λ (xs : List (List ℕ)). take 1 xs) e in
+    (names, subst (λ (xs : List (List ℕ)). IsPrefix xs (program ∷ [])) (sym own) (prefix_all (program ∷ [])), h)
 
 -- a refused run asked for its program
 pub log_refused : (asked : Run) (before after : Option (List (List ℕ))) (refusal : Refusal) → AsksIn (Some (command.Run asked)) before after (Refused refusal) → IsBeforeLog asked before after
@@ -211,6 +217,33 @@ asks_unmade asked name WorldError.Memory c before mid after last closed e k a b 
       subst (λ (x : Option (List (List ℕ))). WasAsked before some x) (sym (s ∙ m refl))
           (asks_on before mid after (asked.program ∷ []) asked.injectors (subst (λ (x : List ℕ). Asks before x mid) e a) b),
     )
+
+-- ---- audits
+
+-- all that an audit asks for
+pub asks_both : (asked : Audit) (before mid after : Option (List (List ℕ))) → Asks before asked.program mid → Asks mid asked.trace after → WasAsked before (names_of (command.Audit asked)) after
+asks_both asked before mid after a b = asks_on before mid after (asked.program ∷ []) (asked.trace ∷ []) a b
+
+-- there is no answer about the trace
+asks_unanswered_of : (asked : Audit) (fault : AuditFault) (before mid after : Option (List (List ℕ))) → Asks before asked.program mid → (((fault ≡ AuditFault.Memory) × (after ≡ mid)) ⊎ Asks mid asked.trace after) →
+    AsksIn (Some (command.Audit asked)) before after (unanswered_of fault)
+asks_unanswered_of asked AuditFault.Read before mid after a (inl b) = let f : ⊥ = (let k = b.0 in cc) in absurd f
+asks_unanswered_of asked AuditFault.Read before mid after a (inr b) = (names_of (command.Audit asked), (prefix_first asked.program (asked.trace ∷ []) (asked.trace ∷ []), prefix_all (names_of (command.Audit asked))), asks_both asked before mid after a b)
+asks_unanswered_of asked AuditFault.Memory before mid after a (inl b) = (asked.program ∷ [], (asked.trace ∷ [], refl), subst (λ (x : Option (List (List ℕ))). Asks before asked.program x) (sym b.1) a)
+asks_unanswered_of asked AuditFault.Memory before mid after a (inr b) = (names_of (command.Audit asked), prefix_all (names_of (command.Audit asked)), asks_both asked before mid after a b)
+
+pub asks_unanswered : (asked : Audit) (fault : AuditFault) (k : Conclusion) (before mid after : Option (List (List ℕ))) → k ≡ unanswered_of fault → Asks before asked.program mid → (((fault ≡ AuditFault.Memory) × (after ≡ mid)) ⊎ Asks mid asked.trace after) →
+    AsksIn (Some (command.Audit asked)) before after k
+asks_unanswered asked fault k before mid after e a b = subst (λ (x : Conclusion). AsksIn (Some (command.Audit asked)) before after x) (sym e) (asks_unanswered_of asked fault before mid after a b)
+
+-- the answer was told
+pub asks_answered : (asked : Audit) (answer : Answer) (seen found : Outside) (c : Conclusion) (before after : Option (List (List ℕ))) → AnswerEnds answer seen found c → WasAsked before (names_of (command.Audit asked)) after → AsksIn (Some (command.Audit asked)) before after c
+asks_answered asked answer seen found (Audited told) before after e a = (names_of (command.Audit asked), refl, a)
+asks_answered asked answer seen found NotWritten before after e a = (names_of (command.Audit asked), refl, a)
+asks_answered asked answer seen found NoMemory before after e a = (names_of (command.Audit asked), prefix_all (names_of (command.Audit asked)), a)
+asks_answered asked answer seen found _ before after e a = absurd e
+
+-- ---- the note
 
 -- whatever was asked for, memory may run out for the note
 some_asked : (k : Conclusion) (names asked : List (List ℕ)) → AsksFor k names asked → IsPrefix asked names

@@ -28,9 +28,10 @@ use Rattle.bp_loading.specs.declared.unloaded.Unloaded.{Unloaded}
 use Rattle.bp_loading.specs.declared.unloaded.Unloaded.TheVariants as unloaded
 use Rattle.bp_args.specs.declared.command.Command.{Command}
 use Rattle.bp_args.specs.declared.command.Command.TheVariants as command
+use Rattle.bp_args.specs.declared.command.Audit.{Audit}
 use Rattle.bp_args.specs.declared.command.Run.{Run}
 use Rattle.bp_cli.specs.declared.conclusion.Conclusion.{Conclusion}
-use Rattle.bp_cli.specs.declared.conclusion.Conclusion.TheVariants.{NoCommand, Refused, Accepted, Ran, NotRead, NotWritten, NoMemory, BadLog, Migrated}
+use Rattle.bp_cli.specs.declared.conclusion.Conclusion.TheVariants.{NoCommand, Refused, Accepted, Ran, NotRead, NotWritten, NoMemory, BadLog, Migrated, Audited}
 use Rattle.bp_cli.specs.Outside.{Outside, ReadFailed, NeverFalls, IsAsBefore}
 use Rattle.bp_cli.specs.Texts.{IsAcceptedUnder, accepted_line, LineEnds}
 use Rattle.bp_cli.specs.Conclusions.{IsStatusOf}
@@ -43,6 +44,7 @@ use Rattle.bp_cli.specs.Migrating.{migrated_of}
 use Rattle.bp_cli.specs.inner.Opening.{AreOpened}
 use Rattle.bp_cli.specs.Runs.{Holds, KeepsLog, KeepsLogFront, TellsWhole, TellsPartly, RunEnds, IsRunOf, header_of}
 use Rattle.bp_cli.proofs.Asking.{IsBeforeLog, asks_some, at_most_unloaded, refused_asked, log_unloaded, log_refused}
+use Rattle.bp_cli.proofs.Audits.{audits_partly}
 use Rattle.bp_cli.proofs.Beginnings.{as_many, beginning}
 use Rattle.bp_cli.proofs.Injected.{Brought, brought_none, all_of}
 use Rattle.bp_cli.proofs.Replays.{front_of, replay_partly}
@@ -89,6 +91,7 @@ caused_on before mid after Accepted n h = tt
 caused_on before mid after (Ran v) n h = tt
 caused_on before mid after (BadLog fault) n h = tt
 caused_on before mid after Migrated n h = tt
+caused_on before mid after (Audited answer) n h = tt
 
 -- ---- runs
 
@@ -189,7 +192,7 @@ line_wanting : (line : List ℕ) (before after : Outside) → IsCaused before af
 line_wanting line before after k h = inr (k, h)
 
 run_wanting : (asked : Run) (records : List Record) (before after : Outside) (c : Conclusion) → AsksIn (Some (command.Run asked)) before.asked after.asked c → has_note c ≡ true → Does (command.Run asked) records before after c → EndsIn (Some (command.Run asked)) records before after NoMemory
-run_wanting asked records before after (Refused refusal) a h d = (tt, inl ((inr refl, inl (refused_asked asked before.asked after.asked refusal a), log_refused asked before.asked after.asked refusal a), d.1))
+run_wanting asked records before after (Refused refusal) a h d = (tt, inl ((inr refl, inl (refused_asked (command.Run asked) asked.program _ before.asked after.asked refusal refl a), log_refused asked before.asked after.asked refusal a), d.1))
 run_wanting asked records before after NotRead a h d = (tt, inr (d.0, d.1, ends_partly asked d.0 records before after NotRead NoMemory d.2 (tells_partly asked d.0 d.2.program records before after d.2.ends.1)))
 run_wanting asked records before after NotWritten a h d = (tt, inr (d.0, d.1, ends_partly asked d.0 records before after NotWritten NoMemory d.2 d.2.ends))
 run_wanting asked records before after NoMemory a h d = (tt, inr d)
@@ -219,6 +222,14 @@ large_wanting n records before after Accepted h k m = absurd (false≢true h)
 large_wanting n records before after (Ran v) h k m = absurd (false≢true h)
 large_wanting n records before after _ h k m = none_some _ _ m.prints
 
+audit_wanting : (asked : Audit) (records : List Record) (before after : Outside) (c : Conclusion) → AsksIn (Some (command.Audit asked)) before.asked after.asked c → has_note c ≡ true → IsCaused before after c → Does (command.Audit asked) records before after c →
+    EndsIn (Some (command.Audit asked)) records before after NoMemory
+audit_wanting asked records before after (Refused refusal) a h k d = (tt, inl ((inr refl, inl (refused_asked (command.Audit asked) asked.program _ before.asked after.asked refusal refl a)), d.1))
+audit_wanting asked records before after NotWritten a h k d = (tt, inr (d.0, d.1, audits_partly asked d.0 before after NotWritten h k d.2, d.3))
+audit_wanting asked records before after NoMemory a h k d = (tt, inr d)
+audit_wanting asked records before after (Audited answer) a h k d = absurd (false≢true h)
+audit_wanting asked records before after _ a h k d = absurd d.2.ends
+
 -- whatever noted conclusion a command ends in, memory may run out for the note
 wanting_note : (c : Option Command) (records : List Record) (before after : Outside) (k : Conclusion) → AsksIn c before.asked after.asked k → has_note k ≡ true → EndsIn c records before after k → EndsIn c records before after NoMemory
 wanting_note None records before after k a h e = (inr refl, e.1)
@@ -230,6 +241,8 @@ wanting_note (Some (command.Replay log)) records before after k a h (e, inl n) =
 wanting_note (Some (command.Replay log)) records before after k a h (e, inr d) = (tt, inr (replay_partly log before after k d.0, d.1))
 wanting_note (Some (command.Migrate log)) records before after k a h (e, inl n) = (tt, inl (inr refl, n.1))
 wanting_note (Some (command.Migrate log)) records before after k a h (e, inr d) = (tt, inr (migration_partly log before after k d.0, d.1))
+wanting_note (Some (command.Audit asked)) records before after k a h (e, inl n) = (tt, inl ((inr refl, n.0.1), n.1))
+wanting_note (Some (command.Audit asked)) records before after k a h (e, inr d) = audit_wanting asked records before after k a h e d
 wanting_note (Some (command.Large n)) records before after k a h (e, inl m) = (tt, inl (refl, m.1))
 wanting_note (Some (command.Large n)) records before after k a h (e, inr d) = (tt, inr (large_wanting n records before after k h e d))
 
@@ -276,6 +289,14 @@ migrate_can log (Err migrate_fault.Write) = tt
 migrate_can log (Err migrate_fault.Memory) = tt
 migrate_can log _ = tt
 
+audit_can : (asked : Audit) (records : List Record) (before after : Outside) (k : Conclusion) → Does (command.Audit asked) records before after k → CanEnd (Some (command.Audit asked)) k
+audit_can asked records before after (Refused refusal) d = tt
+audit_can asked records before after (Audited answer) d = tt
+audit_can asked records before after NotRead d = tt
+audit_can asked records before after NotWritten d = tt
+audit_can asked records before after NoMemory d = tt
+audit_can asked records before after _ d = absurd d.2.ends
+
 can_end : (c : Option Command) (records : List Record) (before after : Outside) (k : Conclusion) → EndsIn c records before after k → CanEnd c k
 can_end None records before after k (inl e, n) = subst (λ (x : Conclusion). CanEnd None x) (sym e) tt
 can_end None records before after k (inr e, n) = subst (λ (x : Conclusion). CanEnd None x) (sym e) tt
@@ -287,6 +308,8 @@ can_end (Some (command.Replay log)) records before after k (e, inl n) = unread_c
 can_end (Some (command.Replay log)) records before after k (e, inr d) = subst (λ (x : Conclusion). CanEnd (Some (command.Replay log)) x) (sym d.0.is_conclusion) (replay_can log d.0.ended)
 can_end (Some (command.Migrate log)) records before after k (e, inl n) = unread_can k (λ (x : Conclusion). CanEnd (Some (command.Migrate log)) x) tt tt n.0
 can_end (Some (command.Migrate log)) records before after k (e, inr d) = subst (λ (x : Conclusion). CanEnd (Some (command.Migrate log)) x) (sym d.0.is_conclusion) (migrate_can log d.0.ended)
+can_end (Some (command.Audit asked)) records before after k (e, inl n) = unread_can k (λ (x : Conclusion). CanEnd (Some (command.Audit asked)) x) tt tt n.0.0
+can_end (Some (command.Audit asked)) records before after k (e, inr d) = audit_can asked records before after k d
 can_end (Some (command.Large n)) records before after k (e, inl m) = subst (λ (x : Conclusion). CanEnd (Some (command.Large n)) x) (sym m.0) tt
 can_end (Some (command.Large n)) records before after k (e, inr d) = large_can n records before after k d
 

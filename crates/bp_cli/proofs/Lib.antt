@@ -1,4 +1,5 @@
 pub mod Asking
+pub mod Audits
 pub mod Beginnings
 pub mod Endings
 pub mod Injected

@@ -11,14 +11,14 @@ use Rattle.bp_script.proofs.Once.{never}
 use Rattle.bp_loading.specs.Loading.{IsUnder}
 use Rattle.bp_args.specs.declared.command.Command.{Command}
 use Rattle.bp_args.specs.declared.command.Command.TheVariants as command
+use Rattle.bp_args.specs.declared.command.Audit.{Audit}
 use Rattle.bp_args.specs.declared.command.Run.{Run}
 use Rattle.bp_cli.specs.declared.conclusion.Conclusion.{Conclusion}
-use Rattle.bp_cli.specs.declared.conclusion.Conclusion.TheVariants.{Refused, Accepted, Ran, NotRead, NotWritten, NoMemory}
+use Rattle.bp_cli.specs.declared.conclusion.Conclusion.TheVariants.{Refused, Accepted, Ran, NotRead, NotWritten, NoMemory, Audited}
 use Rattle.bp_cli.specs.Outside.{Outside}
-use Rattle.bp_cli.specs.Conclusions.{status_of}
+use Rattle.bp_cli.specs.Conclusions.{answer_status, status_of}
 use Rattle.bp_cli.specs.Asking.{WasAskedAtMost, AsksIn}
-use Rattle.bp_cli.specs.Texts.{IsAcceptedUnder}
-use Rattle.bp_cli.specs.Endings.{IsUnread, Does, EndsIn, Ends}
+use Rattle.bp_cli.specs.Endings.{AsksProgramFirst, IsUnread, Does, EndsIn, Ends}
 use Rattle.bp_cli.proofs.Asking.{refused_asked, one_asked_at_most}
 use Rattle.bp_cli.specs.Refusing.{program_of, Refuses}
 
@@ -62,7 +62,7 @@ held_refused name before after status a s held bytes refusal h b r = (a, s)
 
 run_refuses : (asked : Run) (records : List Record) (before after : Outside) (c : Conclusion) → AsksIn (Some (command.Run asked)) before.asked after.asked c → Does (command.Run asked) records before after c →
     IsToRefuse asked.program before after (status_of c)
-run_refuses asked records before after (Refused refusal) a d = held_refused asked.program before after 2 (refused_asked asked before.asked after.asked refusal a) (inl refl)
+run_refuses asked records before after (Refused refusal) a d = held_refused asked.program before after 2 (refused_asked (command.Run asked) asked.program _ before.asked after.asked refusal refl a) (inl refl)
 run_refuses asked records before after NotRead a d = held_accepted asked.program d.0 d.2.program before after 8 d.1 d.2.is_program
 run_refuses asked records before after NoMemory a d = held_accepted asked.program d.0 d.2.program before after 10 d.1 d.2.is_program
 run_refuses asked records before after (Ran v) a d = held_accepted asked.program d.0 d.2.program before after (status_of (Ran v)) d.1 d.2.is_program
@@ -78,13 +78,21 @@ accept_refuses program records before after NotWritten a d = held_accepted progr
 accept_refuses program records before after (Ran v) a d = absurd d.2
 accept_refuses program records before after _ a d = absurd d.2.1
 
+audit_refuses : (asked : Audit) (records : List Record) (before after : Outside) (c : Conclusion) → AsksIn (Some (command.Audit asked)) before.asked after.asked c → Does (command.Audit asked) records before after c →
+    IsToRefuse asked.program before after (status_of c)
+audit_refuses asked records before after (Refused refusal) a d = held_refused asked.program before after 2 (refused_asked (command.Audit asked) asked.program _ before.asked after.asked refusal refl a) (inl refl)
+audit_refuses asked records before after (Audited answer) a d = held_accepted asked.program d.0 d.2.program before after (answer_status answer) d.1 d.2.is_program
+audit_refuses asked records before after NotWritten a d = held_accepted asked.program d.0 d.2.program before after 9 d.1 d.2.is_program
+audit_refuses asked records before after NoMemory a d = held_accepted asked.program d.0 d.2.program before after 10 d.1 d.2.is_program
+audit_refuses asked records before after _ a d = absurd d.2.ends
+
 unread_status : (k : Conclusion) → IsUnread k → Answers (status_of k)
 unread_status k (inl e) = subst (λ (x : Conclusion). Answers (status_of x)) (sym e) (inr (inl refl))
 unread_status k (inr e) = subst (λ (x : Conclusion). Answers (status_of x)) (sym e) (inr (inr refl))
 
-early_refuses : (asked : Run) (before after : Outside) (status : ℕ) → Answers status → (WasAskedAtMost before.asked asked.program after.asked ⊎ IsAcceptedUnder before.holds asked.program) → IsToRefuse asked.program before after status
-early_refuses asked before after status s (inl a) = held_refused asked.program before after status a s
-early_refuses asked before after status s (inr u) = held_accepted asked.program u.0 u.2.0 before after status u.1 u.2.1
+early_refuses : (program : List ℕ) (before after : Outside) (status : ℕ) → Answers status → AsksProgramFirst program before after → IsToRefuse program before after status
+early_refuses program before after status s (inl a) = held_refused program before after status a s
+early_refuses program before after status s (inr u) = held_accepted program u.0 u.2.0 before after status u.1 u.2.1
 
 none_refused : (c : Option Command) (before after : Outside) (status : ℕ) → option_and_then program_of c ≡ None → Refuses c before after status
 none_refused c before after status e = if_some before.holds _ (λ held h. if_some (option_and_then program_of c) _ (λ name n. absurd (none-some name (sym e ∙ n))))
@@ -92,11 +100,14 @@ none_refused c before after status e = if_some before.holds _ (λ held h. if_som
 refuses_in : (c : Option Command) (records : List Record) (before after : Outside) (k : Conclusion) → AsksIn c before.asked after.asked k → EndsIn c records before after k → Refuses c before after (status_of k)
 refuses_in None records before after k a e = none_refused None before after (status_of k) refl
 refuses_in (Some (command.Run asked)) records before after k a (e, inl h) =
-    refuses_by (command.Run asked) asked.program before after (status_of k) refl (early_refuses asked before after (status_of k) (unread_status k h.0.0) h.0.1)
+    refuses_by (command.Run asked) asked.program before after (status_of k) refl (early_refuses asked.program before after (status_of k) (unread_status k h.0.0) h.0.1)
 refuses_in (Some (command.Run asked)) records before after k a (e, inr d) = refuses_by (command.Run asked) asked.program before after (status_of k) refl (run_refuses asked records before after k a d)
 refuses_in (Some (command.Accept program)) records before after k a (e, inl h) =
     refuses_by (command.Accept program) program before after (status_of k) refl (held_refused program before after (status_of k) (one_asked_at_most program before.asked after.asked k a) (unread_status k h.0))
 refuses_in (Some (command.Accept program)) records before after k a (e, inr d) = refuses_by (command.Accept program) program before after (status_of k) refl (accept_refuses program records before after k a d)
+refuses_in (Some (command.Audit asked)) records before after k a (e, inl h) =
+    refuses_by (command.Audit asked) asked.program before after (status_of k) refl (early_refuses asked.program before after (status_of k) (unread_status k h.0.0) h.0.1)
+refuses_in (Some (command.Audit asked)) records before after k a (e, inr d) = refuses_by (command.Audit asked) asked.program before after (status_of k) refl (audit_refuses asked records before after k a d)
 refuses_in (Some (command.Replay log)) records before after k a e = none_refused (Some (command.Replay log)) before after (status_of k) refl
 refuses_in (Some (command.Large n)) records before after k a e = none_refused (Some (command.Large n)) before after (status_of k) refl
 refuses_in (Some (command.Migrate log)) records before after k a e = none_refused (Some (command.Migrate log)) before after (status_of k) refl

@@ -2,7 +2,7 @@
 use Rattle.std.specs.Prelude.{◌≡◌, ℕ, ◌<◌, List, [], ◌∷◌, ◌++◌, length, take, Option, Some, None, IfSome, option_to_list}
 use mathlib.Core.List.{IsPrefix}
 use Rattle.bp_args.specs.declared.command.Command.{Command}
-use Rattle.bp_args.specs.declared.command.Command.TheVariants.{Run, Replay, Accept, Large, Migrate}
+use Rattle.bp_args.specs.declared.command.Command.TheVariants.{Run, Replay, Accept, Large, Migrate, Audit}
 use Rattle.bp_cli.specs.declared.conclusion.Conclusion.{Conclusion}
 use Rattle.bp_cli.specs.declared.conclusion.Conclusion.TheVariants.{Refused, NotRead, NoMemory}
 
@@ -13,6 +13,7 @@ names_of (Replay log) = log ∷ []
 names_of (Accept program) = program ∷ []
 names_of (Large n) = []
 names_of (Migrate log) = log ∷ []
+names_of (Audit asked) = asked.program ∷ asked.trace ∷ []
 
 -- the world was asked for these names, in order
 abbrev pub WasAsked : Option (List (List ℕ)) → List (List ℕ) → Option (List (List ℕ)) → Type 0

@@ -3,9 +3,9 @@ use Rattle.std.specs.Prelude.{◌≡◌, ◌⊎◌, ℕ, List, [], Option, Some,
 use Rattle.bp_log.specs.declared.record.Record.{Record}
 use Rattle.bp_loading.specs.Loading.{IsUnder, IsRefusedUnder}
 use Rattle.bp_args.specs.declared.command.Command.{Command}
-use Rattle.bp_args.specs.declared.command.Command.TheVariants.{Run, Replay, Accept, Large, Migrate}
+use Rattle.bp_args.specs.declared.command.Command.TheVariants.{Run, Replay, Accept, Large, Migrate, Audit}
 use Rattle.bp_cli.specs.declared.conclusion.Conclusion.{Conclusion}
-use Rattle.bp_cli.specs.declared.conclusion.Conclusion.TheVariants.{NoCommand, Refused, Accepted, Ran, NotRead, NotWritten, NoMemory, BadLog, Migrated}
+use Rattle.bp_cli.specs.declared.conclusion.Conclusion.TheVariants.{NoCommand, Refused, Accepted, Ran, NotRead, NotWritten, NoMemory, BadLog, Migrated, Audited}
 use Rattle.bp_cli.specs.Outside.{Outside, ReadFailed, WriteFailed, IsAsBefore}
 use Rattle.bp_cli.specs.Texts.{IsAcceptedUnder, SaysAccepted}
 use Rattle.bp_cli.specs.Runs.{IsRunOf}
@@ -14,6 +14,7 @@ use Rattle.bp_cli.specs.Conclusions.{IsStatusOf}
 use Rattle.bp_cli.specs.Asking.{names_of, WasAskedSome, WasAskedAtMost, AsksIn}
 use Rattle.bp_cli.specs.Replaying.{ReplaysTo}
 use Rattle.bp_cli.specs.Migrating.{MigratesTo}
+use Rattle.bp_cli.specs.Auditing.{AuditsTo}
 
 -- a failure has its cause
 abbrev pub IsCaused : Outside → Outside → Conclusion → Type 0
@@ -29,15 +30,21 @@ DoesNothing records before after = IsAsBefore before after × (records ≡ [])
 abbrev pub IsUnread : Conclusion → Type 0
 IsUnread conclusion = (conclusion ≡ NotRead) ⊎ (conclusion ≡ NoMemory)
 
--- A command may end so before it has done anything. The large program is not read. A run asks for no
--- other name before its program is accepted, and for its log last, so it has not asked for that.
+-- no other name was asked for, or the program is accepted
+abbrev pub AsksProgramFirst : List ℕ → Outside → Outside → Type 0
+AsksProgramFirst program before after =
+    WasAskedAtMost before.asked program after.asked ⊎ IsAcceptedUnder before.holds program
+
+-- A command may end so before it has done anything. The large program is not read. A run and an audit
+-- ask for no other name before their program is accepted, and a run for its log last, so it has not
+-- asked for that.
 abbrev pub IsEarly : Command → Outside → Outside → Conclusion → Type 0
 IsEarly (Large n) before after conclusion = conclusion ≡ NoMemory
 IsEarly (Run asked) before after conclusion =
-    IsUnread conclusion
-    × (WasAskedAtMost before.asked asked.program after.asked
-    ⊎ IsAcceptedUnder before.holds asked.program)
+    IsUnread conclusion × AsksProgramFirst asked.program before after
     × IfSome asked.log (λ name. WasAskedSome before.asked (names_of (Run asked)) after.asked)
+IsEarly (Audit asked) before after conclusion =
+    IsUnread conclusion × AsksProgramFirst asked.program before after
 IsEarly _ before after conclusion = IsUnread conclusion
 
 -- what a command has done that ends so
@@ -47,6 +54,8 @@ Does (Run asked) records before after (Refused refusal) =
     IsRefusedUnder before.holds asked.program refusal × DoesNothing records before after
 Does (Accept program) records before after (Refused refusal) =
     IsRefusedUnder before.holds program refusal × DoesNothing records before after
+Does (Audit asked) records before after (Refused refusal) =
+    IsRefusedUnder before.holds asked.program refusal × DoesNothing records before after
 -- what the world holds under the program's name was run, or said to be accepted
 Does (Run asked) records before after conclusion =
     (bytes : List ℕ) × IsUnder before.holds asked.program bytes
@@ -62,6 +71,10 @@ Does (Replay log) records before after conclusion =
 -- what the world holds under the log's name was migrated
 Does (Migrate log) records before after conclusion =
     MigratesTo log before after conclusion × (records ≡ [])
+-- what the world holds under the trace's name was compared with the program
+Does (Audit asked) records before after conclusion =
+    (bytes : List ℕ) × IsUnder before.holds asked.program bytes
+    × AuditsTo asked bytes before after conclusion × (records ≡ [])
 
 -- how a command ends; words that are no command do nothing
 abbrev pub EndsIn : Option Command → List Record → Outside → Outside → Conclusion → Type 0
@@ -91,6 +104,9 @@ CanEnd (Some (Replay log)) (BadLog fault) = Unit {0}
 CanEnd (Some (Migrate log)) NotRead = Unit {0}
 CanEnd (Some (Migrate log)) Migrated = Unit {0}
 CanEnd (Some (Migrate log)) (BadLog fault) = Unit {0}
+CanEnd (Some (Audit asked)) NotRead = Unit {0}
+CanEnd (Some (Audit asked)) (Refused refusal) = Unit {0}
+CanEnd (Some (Audit asked)) (Audited answer) = Unit {0}
 CanEnd _ _ = ⊥
 
 -- status and note are those of a conclusion in which the command ends, and for which it asks

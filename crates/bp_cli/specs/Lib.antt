@@ -8,5 +8,6 @@ pub mod Asking
 pub mod Refusing
 pub mod Replaying
 pub mod Migrating
+pub mod Auditing
 pub mod Endings
 pub mod inner

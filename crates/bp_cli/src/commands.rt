@@ -8,6 +8,7 @@ ghost use Rattle.bp_cli.specs.Outside.{outside, NeverFalls};
 ghost use Rattle.bp_cli.specs.Refusing.{Refuses};
 
 use crate::Status;
+use crate::auditing::audit_trace;
 use crate::conclusion::Conclusion;
 use crate::ended::Ended;
 use crate::large::measure_large;
@@ -45,6 +46,7 @@ fn carry_out<R: Threads + Wait + Sync + Clock, W: World, K: Sink>(
         }
         Command::Replay(name) => Ended::without_run(alloc, replay_log(alloc, &name, world, out)),
         Command::Migrate(name) => Ended::without_run(alloc, migrate_log(alloc, &name, world, out)),
+        Command::Audit(asked) => Ended::without_run(alloc, audit_trace(alloc, &asked, world, out)),
     }
 }
 
@@ -74,7 +76,7 @@ fn conclude<R: Threads + Wait + Sync + Clock, W: World, K: Sink>(
 /// Carries out the command that the words are.
 ///
 /// The words are those after the program's name: `run [OPTIONS] PROGRAM [INJECTOR]...`, `replay
-/// LOG`, `accept PROGRAM`, `large N` or `migrate LOG`.
+/// LOG`, `accept PROGRAM`, `large N`, `migrate LOG` or `audit [OPTIONS] PROGRAM TRACE`.
 pub fn command<R: Threads + Wait + Sync + Clock, W: World, K: Sink>(
     rt: &R,
     alloc: Global,
@@ -95,10 +97,12 @@ pub fn command<R: Threads + Wait + Sync + Clock, W: World, K: Sink>(
     // complete story over the same injectors. Without injectors the records are those of the one
     // run, or the first of them. A replay at 11, and at 8 unless it printed nothing, has printed
     // the text of the records that were followed. A migration ends at 0 if the bytes are a log,
-    // printed in the second version, and at 11 if not. The world was asked for the names of the
-    // words, in order, and for all of them if a verdict came. So if no count rose and memory did
-    // not run out, the status is 1, 2, 11, that of the verdict, or 0 for an accepted program and a
-    // migrated log.
+    // printed in the second version, and at 11 if not. An audit ends at 0 if the bytes are the text
+    // of a free run of the program, of which it prints how many events it has, and at 13 if not, of
+    // which it prints the first wrong line and why. The world was asked for the names of the words,
+    // in order, and for all of them if a verdict or an answer came. So if no count rose and memory
+    // did not run out, the status is 1, 2, 11 or 13, that of the verdict, or 0 for an accepted
+    // program, a migrated log and a trace.
     ensures ends { let seen = outside W.holds W.asked W.read_faults W.write_faults
         K.written K.faults in Ends (command_of (map string_bytes words.now))
         (seen world.old out.old) (seen world.new out.new) result.code result.note result.records }

@@ -1,11 +1,13 @@
 //! How a command ends.
 ghost use Rattle.std.specs.Prelude.{◌≡◌, true, IfOk, OnErr, unwrap_or};
-ghost use Rattle.bp_cli.specs.Conclusions.{status_of, note_of, verdict_status};
-ghost use Rattle.bp_cli.specs.inner.Outcomes.{has_note, ended_of, unopened_of, unmade_of};
+ghost use Rattle.bp_cli.specs.Conclusions.{status_of, note_of, verdict_status, answer_status};
+ghost use Rattle.bp_cli.specs.inner.Outcomes.{has_note, ended_of, unopened_of, unmade_of, unanswered_of};
 ghost use Rattle.bp_cli.specs.Replaying.{trouble_of as trouble_in, replayed_of};
 ghost use Rattle.bp_cli.specs.Migrating.{as_replayed, migrated_of};
 
+use bp_audit::AuditFault;
 use bp_base::WorldError;
+use bp_free::Answer;
 use bp_loading::{NO_MEMORY, Unloaded};
 use bp_log::{Memory, Verdict, VerdictKind};
 use bp_migrate::MigrateFault;
@@ -18,13 +20,16 @@ use std::alloc::Global;
 
 /// The note for words that are not a command.
 const USAGE: &str =
-    "usage: bp run [OPTIONS] PROGRAM [INJECTOR]... | bp replay LOG | bp accept PROGRAM | bp large N | bp migrate LOG";
+    "usage: bp run [OPTIONS] PROGRAM [INJECTOR]... | bp replay LOG | bp accept PROGRAM | bp large N | bp migrate LOG | bp audit PROGRAM TRACE";
 
 /// The note for a fault of reading.
 const READ_FAULT: &str = "read fault";
 
 /// The note for a fault of writing.
 const WRITE_FAULT: &str = "write fault";
+
+/// The status where a trace is none of a free run.
+const NO_TRACE: u8 = 13;
 
 /// How a command ends.
 pub enum Conclusion {
@@ -46,6 +51,8 @@ pub enum Conclusion {
     BadLog(ReplayFault),
     /// The log was printed in the second version.
     Migrated,
+    /// A trace was compared with the free runs of its program, and this answer printed.
+    Audited(Answer),
 }
 
 impl Drop for Conclusion {
@@ -60,6 +67,7 @@ impl Drop for Conclusion {
             Conclusion::NoMemory => {}
             Conclusion::BadLog(_) => {}
             Conclusion::Migrated => {}
+            Conclusion::Audited(_) => {}
         }
     }
 }
@@ -90,6 +98,16 @@ fn verdict_status(kind: VerdictKind) -> u8
         VerdictKind::Spent => 5,
         VerdictKind::Limit => 6,
         VerdictKind::Bad => 7,
+    }
+}
+
+/// The status where this is the answer about a trace.
+fn answer_status(answer: &Answer) -> u8
+    ensures { result ≡ answer_status answer.now }
+{
+    match answer {
+        Answer::Yes(_) => 0,
+        Answer::No(..) => NO_TRACE,
     }
 }
 
@@ -155,6 +173,16 @@ impl Conclusion {
         }
     }
 
+    /// What comes of a trace about which there is no answer.
+    pub(crate) fn unanswered(fault: AuditFault) -> Conclusion
+        ensures { result ≡ unanswered_of fault }
+    {
+        match fault {
+            AuditFault::Read => Conclusion::NotRead,
+            AuditFault::Memory => Conclusion::NoMemory,
+        }
+    }
+
     /// What comes of a replay.
     pub(crate) fn of_replay(ended: Result<Verdict, ReplayFault>) -> Conclusion
         ensures { result ≡ replayed_of ended }
@@ -185,7 +213,7 @@ impl Conclusion {
         }
     }
 
-    /// Its exit status, from 0 to 11.
+    /// Its exit status, from 0 to 11, or 13.
     pub(crate) fn status(&self) -> u8
         ensures { result ≡ status_of self.now }
     {
@@ -198,6 +226,7 @@ impl Conclusion {
             Conclusion::NotWritten => 9,
             Conclusion::NoMemory => NO_MEMORY,
             Conclusion::BadLog(_) => 11,
+            Conclusion::Audited(answer) => answer_status(answer),
         }
     }
 
@@ -215,7 +244,8 @@ impl Conclusion {
             Conclusion::Accepted
             | Conclusion::Ran(_)
             | Conclusion::NoMemory
-            | Conclusion::Migrated => return Ok(Text::new(String::new(alloc))),
+            | Conclusion::Migrated
+            | Conclusion::Audited(_) => return Ok(Text::new(String::new(alloc))),
         };
         Ok(Text::new(words.to_string(alloc)?))
     }

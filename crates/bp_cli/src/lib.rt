@@ -1,6 +1,7 @@
 //! The command line of `bp`, over any world and any output.
 #![tactic(auto)]
 
+mod auditing;
 mod commands;
 mod conclusion;
 mod ended;

@@ -12,7 +12,7 @@ use std::alloc::Global;
 /// What a command ends with.
 #[derive(Drop)]
 pub struct Status {
-    /// The exit status, from 0 to 11.
+    /// The exit status, from 0 to 11, or 13.
     pub code: u8,
     /// The note for standard error, which may be empty.
     pub note: Text,

@@ -3,11 +3,12 @@ use Rattle.std.specs.Prelude.{◌≡◌, ℕ, List, [], length, Option, Some, No
 use Rattle.std.specs.List.{AllZip}
 use Rattle.bp_base.specs.Worlds.{Holdings, Opens, IsMadeAs, Keeps}
 use Rattle.bp_args.specs.declared.command.Command.{Command}
-use Rattle.bp_args.specs.declared.command.Command.TheVariants.{Run}
+use Rattle.bp_args.specs.declared.command.Command.TheVariants.{Run, Audit}
 
--- the options of a run say how many injectors it has
+-- the options of a run say how many injectors it has, and an audit has none
 abbrev pub IsCounted : Command → Type 0
 IsCounted (Run asked) = asked.options.injectors ≡ length asked.injectors
+IsCounted (Audit asked) = asked.options.injectors ≡ 0
 IsCounted _ = Unit {0}
 
 -- each input is what the world holds under its name, and has not failed

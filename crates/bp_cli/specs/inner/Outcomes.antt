@@ -1,5 +1,6 @@
 -- What comes of the parts of a command.
 use Rattle.std.specs.Prelude.{Bool, true, false}
+use Rattle.bp_audit.specs.declared.fault.AuditFault.{AuditFault}
 use Rattle.bp_base.specs.declared.outside.WorldError.{WorldError}
 use Rattle.bp_loading.specs.declared.unloaded.Unloaded.{Unloaded}
 use Rattle.bp_session.specs.declared.report.Ending.{Ending}
@@ -31,6 +32,11 @@ unopened_of WorldError.Memory = NoMemory
 abbrev pub unmade_of : WorldError → Conclusion
 unmade_of WorldError.Failed = NotWritten
 unmade_of WorldError.Memory = NoMemory
+
+-- what comes of a trace about which there is no answer
+abbrev pub unanswered_of : AuditFault → Conclusion
+unanswered_of AuditFault.Read = NotRead
+unanswered_of AuditFault.Memory = NoMemory
 
 -- what comes of a program that was not loaded
 abbrev pub unloaded_of : Unloaded → Conclusion
