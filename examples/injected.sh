@@ -160,7 +160,7 @@ refused_injectors() {
     program run "$got/watching.js" "$got" > "$got/trace" 2> "$got/note"
     status=$?
     comes 8 'read fault' || return 1
-    usage='usage: bp run [OPTIONS] PROGRAM [INJECTOR]... | bp replay LOG | bp accept PROGRAM | bp large N | bp migrate LOG'
+    usage='usage: bp run [OPTIONS] PROGRAM [INJECTOR]... | bp replay LOG | bp accept PROGRAM | bp large N | bp migrate LOG | bp audit PROGRAM TRACE'
     program run --log "$got/lines" "$got/watching.js" "$got/lines" > "$got/trace" 2> "$got/note"
     status=$?
     comes 1 "$usage" || return 1

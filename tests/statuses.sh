@@ -80,6 +80,8 @@ log waits.log 2 waits.js 1 'sel ["x"]'
 log program.log 2 unknown.js 0 'end quiet 0'
 log front.log 2 quiet.js 0 'sel ["e"]'
 echo 'log' > version.log
+printf '%s\n' 'event ["e"]' 'done "A"' 'verdict quiet 1' > quiet.trace
+head -n 2 quiet.trace > cut.trace
 printf '%s\n' 'bp-log 2' 'strategy none' > header.log
 
 # A script, and its log, that a program of 12,000 KiB cannot hold.
@@ -98,8 +100,9 @@ bp run quiet.js ==> 0 ==> event ["e"]\ndone "A"\nverdict quiet 1\n
 bp replay quiet.log ==> 0 ==> event ["e"]\ndone "A"\nverdict quiet 1\n
 bp accept quiet.js ==> 0 ==> accepted\n
 bp migrate first.log ==> 0 ==> @quiet.log
+bp audit quiet.js quiet.trace ==> 0 ==> yes 1\n
 bp large 2 ==> 0 ==> large 2 events 8 lines 11 bytes 148\n
-bp ==> 1 usage: bp run [OPTIONS] PROGRAM [INJECTOR]... | bp replay LOG | bp accept PROGRAM | bp large N | bp migrate LOG ==>
+bp ==> 1 usage: bp run [OPTIONS] PROGRAM [INJECTOR]... | bp replay LOG | bp accept PROGRAM | bp large N | bp migrate LOG | bp audit PROGRAM TRACE ==>
 bp accept long.js ==> 2 refused: too long ==>
 bp accept character.js ==> 2 refused line 1: character ==>
 bp accept text.js ==> 2 refused line 1: open text ==>
@@ -116,6 +119,7 @@ bp accept loop.js ==> 2 refused line 1: loop word ==>
 bp accept return.js ==> 2 refused line 1: return place ==>
 bp accept slots.js ==> 2 refused line 1: slots ==>
 bp run unknown.js ==> 2 refused line 1: unknown x ==>
+bp audit unknown.js quiet.trace ==> 2 refused line 1: unknown x ==>
 bp run violated.js ==> 3 ==> verdict violated "A" "no"\n
 bp run fault.js ==> 4 ==> verdict fault "A" 1 zero\n
 bp run --budget 1000 spent.js ==> 5 ==> verdict spent "A"\n
@@ -127,16 +131,22 @@ bp run waits.js folder ==> 8 read fault ==>
 bp accept none.js ==> 8 read fault ==>
 bp replay none.log ==> 8 read fault ==>
 bp migrate none.log ==> 8 read fault ==>
+bp audit none.js quiet.trace ==> 8 read fault ==>
+bp audit quiet.js none.trace ==> 8 read fault ==>
+bp audit quiet.js folder ==> 8 read fault ==>
 bp run quiet.js > /dev/full ==> 9 write fault ==>
 bp run --log none/run.log quiet.js ==> 9 write fault ==>
 bp run --log /dev/full quiet.js ==> 9 write fault ==>
 bp accept quiet.js > /dev/full ==> 9 write fault ==>
 bp replay quiet.log > /dev/full ==> 9 write fault ==>
 bp migrate first.log > /dev/full ==> 9 write fault ==>
+bp audit quiet.js quiet.trace > /dev/full ==> 9 write fault ==>
+bp audit quiet.js cut.trace > /dev/full ==> 9 write fault ==>
 bp large 1 > /dev/full ==> 9 write fault ==>
 ulimit -v 12000; bp run big.js ==> 10 ==>
 ulimit -v 12000; bp accept big.js ==> 10 ==>
 ulimit -v 12000; bp replay big.log ==> 10 ==>
+ulimit -v 12000; bp audit big.js quiet.trace ==> 10 ==>
 ulimit -v 12000; bp large 4000 ==> 10 ==>
 bp replay version.log ==> 11 bad log: version ==>
 bp replay header.log ==> 11 bad log: header ==>
@@ -149,6 +159,8 @@ bp migrate version.log ==> 11 bad log: version ==>
 bp migrate header.log ==> 11 bad log: header ==>
 bp migrate line.log ==> 11 bad log: line 2 ==> @front.log
 bp migrate cut.log ==> 11 bad log: cut ==> @front.log
+bp audit quiet.js cut.trace ==> 13 ==> no line 3 cut\n
+bp audit quiet.js quiet.js ==> 13 ==> no line 1 not here\n
 bpx --help > help ==> 0 ==>
 bpx check quiet.js ==> 0 ==>
 bpx state quiet.log 0 ==> 0 ==> before the first record\nb-thread "A" at line 1\n  request ["e"]\n
