@@ -1,0 +1,6 @@
+pub mod Lines
+pub mod Heads
+pub mod Dues
+pub mod Standing
+pub mod Steps
+pub mod Rounds
