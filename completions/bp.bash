@@ -3,7 +3,7 @@ _bp() {
     local word=${COMP_WORDS[COMP_CWORD]} before=${COMP_WORDS[COMP_CWORD - 1]}
     # --option=value comes in three words
     if [ "$word" = = ]; then word=; elif [ "$before" = = ]; then before=${COMP_WORDS[COMP_CWORD - 2]}; fi
-    if [ "$COMP_CWORD" -eq 1 ]; then COMPREPLY=($(compgen -W "run replay accept migrate large" -- "$word")); return; fi
+    if [ "$COMP_CWORD" -eq 1 ]; then COMPREPLY=($(compgen -W "run replay accept migrate audit large" -- "$word")); return; fi
     case $before in
         --strategy) COMPREPLY=($(compgen -W "simple ordered priority" -- "$word")); return ;;
         --wait) COMPREPLY=($(compgen -W "yes no" -- "$word")); return ;;

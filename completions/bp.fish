@@ -1,5 +1,5 @@
 # Made by docs/manual.sh from README.md and docs/COMMAND.md.
-complete -c bp -n __fish_use_subcommand -f -a "run replay accept migrate large"
+complete -c bp -n __fish_use_subcommand -f -a "run replay accept migrate audit large"
 complete -c bp -n "__fish_seen_subcommand_from run" -l log -r -F -d "write the log of the run to this file"
 complete -c bp -n "__fish_seen_subcommand_from run" -l strategy -x -a "simple ordered priority" -d "draw any selectable event, a first choice, or one of the greatest priority"
 complete -c bp -n "__fish_seen_subcommand_from run" -l seed -x -d "the seed of the draws"
