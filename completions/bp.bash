@@ -12,6 +12,7 @@ _bp() {
     esac
     case ${COMP_WORDS[1]},$word in
         run,-*) COMPREPLY=($(compgen -W "--log --strategy --seed --budget --steps --wait --workers --slice" -- "$word")) ;;
+        audit,-*) COMPREPLY=($(compgen -W "--budget --steps" -- "$word")) ;;
         *) COMPREPLY=($(compgen -f -- "$word")) ;;
     esac
 }

@@ -105,14 +105,16 @@ words() {
         }' "$room/options" | if [ "$1" = bpx ]; then grep -v '^option \(log\|seed\) '; else cat; fi
 }
 
-# completions PROGRAM COMMAND: for this program, whose COMMAND has options
+# completions PROGRAM COMMAND [OTHER NAMES]: for this program, whose COMMAND has options, and OTHER those of these names
 completions() {
     words "$1" > "$room/words"
-    awk -v program="$1" -v with="$2" -v folder="$to/completions/" '
+    awk -v program="$1" -v with="$2" -v other="$3" -v names="$4" -v folder="$to/completions/" '
         $1 == "command" { commands = commands (commands == "" ? "" : " ") $2; next }
         {
             meaning = $4; for (each = 5; each <= NF; each++) meaning = meaning " " $each
             options = options (options == "" ? "" : " ") "--" $2
+            both = index(" " names " ", " " $2 " ")
+            if (both) some = some (some == "" ? "" : " ") "--" $2
             values = $3; gsub(/,/, " ", values)
             if ($3 == "number") numbers = numbers (numbers == "" ? "" : " | ") "--" $2
             else if ($3 == "file") files = files (files == "" ? "" : " | ") "--" $2
@@ -122,11 +124,15 @@ completions() {
             }
             takes = $3 == "number" ? "-x" : $3 == "file" ? "-r -F" : "-x -a \"" values "\""
             gsub(/"/, "\\\"", meaning)
-            fish = fish "complete -c " program " -n \"__fish_seen_subcommand_from " with "\" -l " $2 " " takes " -d \"" meaning "\"\n"
+            fish = fish "complete -c " program " -n \"__fish_seen_subcommand_from " with (both ? " " other : "") "\" -l " $2 " " takes " -d \"" meaning "\"\n"
         }
         END {
             made = "# Made by docs/manual.sh from README.md and docs/COMMAND.md.\n"
             if (files != "") bash = bash "        " files ") COMPREPLY=($(compgen -f -- \"$word\")); return ;;\n"
+            if (some != "") {
+                asked = "        " other ",-*) COMPREPLY=($(compgen -W \"" some "\" -- \"$word\")) ;;\n"
+                given = "    elif [[ $words[2] == " other " && $words[CURRENT] == -* ]]; then compadd -- " some "\n"
+            }
             if (files != "") zsh = zsh "        " files ") _files; return ;;\n"
             printf "%s_%s() {\n    local word=${COMP_WORDS[COMP_CWORD]} before=${COMP_WORDS[COMP_CWORD - 1]}\n" \
                 "    # --option=value comes in three words\n" \
@@ -134,16 +140,16 @@ completions() {
                 "    if [ \"$COMP_CWORD\" -eq 1 ]; then COMPREPLY=($(compgen -W \"%s\" -- \"$word\")); return; fi\n" \
                 "    case $before in\n%s        %s) return ;;\n    esac\n" \
                 "    case ${COMP_WORDS[1]},$word in\n" \
-                "        %s,-*) COMPREPLY=($(compgen -W \"%s\" -- \"$word\")) ;;\n" \
+                "        %s,-*) COMPREPLY=($(compgen -W \"%s\" -- \"$word\")) ;;\n%s" \
                 "        *) COMPREPLY=($(compgen -f -- \"$word\")) ;;\n    esac\n}\ncomplete -o filenames -F _%s %s\n", \
-                made, program, commands, bash, numbers, with, options, program, program > (folder program ".bash")
+                made, program, commands, bash, numbers, with, options, asked, program, program > (folder program ".bash")
             printf "#compdef %s\n%s_%s() {\n    if ((CURRENT == 2)); then compadd -- %s; return; fi\n" \
                 "    case $words[CURRENT-1] in\n%s        %s) return ;;\n    esac\n" \
-                "    if [[ $words[2] == %s && $words[CURRENT] == -* ]]; then compadd -- %s; else _files; fi\n}\n_%s \"$@\"\n", \
-                program, made, program, commands, zsh, numbers, with, options, program > (folder "_" program)
+                "    if [[ $words[2] == %s && $words[CURRENT] == -* ]]; then compadd -- %s\n%s    else _files; fi\n}\n_%s \"$@\"\n", \
+                program, made, program, commands, zsh, numbers, with, options, given, program > (folder "_" program)
             printf "%scomplete -c %s -n __fish_use_subcommand -f -a \"%s\"\n%s", made, program, commands, fish > (folder program ".fish")
         }' "$room/words"
 }
 
-completions bp run
+completions bp run audit "budget steps"
 completions bpx seeds
