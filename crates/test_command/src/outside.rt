@@ -106,3 +106,32 @@ fn what_can_not_be_printed_is_not_accepted(rt: HostRuntime) -> Result<(), Fail> 
     assert!(rt; ran.came_to(9, "write fault", b""));
     Ok(())
 }
+
+/// The opening of the trace fails, its first read, its second, or the printing of the answer.
+#[test]
+fn an_audit_that_fails_says_so(rt: HostRuntime) -> Result<(), Fail> {
+    let alloc = rt.alloc();
+    let files = [("p", TAPS), ("t", TAKING_TURNS)];
+    let ran = ran_in(&rt, alloc, "audit|p|t", holding(&files))?;
+    assert!(rt; ran.came_to(0, "", b"yes 6\n"));
+    let unopened = Held {
+        world: 2,
+        ..holding(&files)
+    };
+    meets_read_fault(&rt, alloc, "audit|p|t", unopened)?;
+    for call in 1..=2u64 {
+        let unread = Held {
+            name: "t",
+            call,
+            ..holding(&files)
+        };
+        meets_read_fault(&rt, alloc, "audit|p|t", unread)?;
+    }
+    let unwritten = Held {
+        output: 1,
+        ..holding(&files)
+    };
+    let ran = ran_in(&rt, alloc, "audit|p|t", unwritten)?;
+    assert!(rt; ran.came_to(9, "write fault", b""));
+    Ok(())
+}
