@@ -48,11 +48,11 @@ prefix_first x xs ys = (ys, refl)
 
 -- ---- asked
 
-pub asked_err : {T : Type 0} (u k : Unloaded) (P Q : Type 0) → ((IsErrOf {T = T} (Err u) k × P) ⊎ Q) → (((u ≡ k) × P) ⊎ Q)
+pub asked_err : {T E : Type 0} (u k : E) (P Q : Type 0) → ((IsErrOf {T = T} (Err u) k × P) ⊎ Q) → (((u ≡ k) × P) ⊎ Q)
 asked_err u k P Q (inl h) = inl ((let e = h.0 in cc), h.1)
 asked_err u k P Q (inr q) = inr q
 
-pub asked_ok : {T : Type 0} (x : T) (k : Unloaded) (P Q : Type 0) → ((IsErrOf (Ok x) k × P) ⊎ Q) → Q
+pub asked_ok : {T E : Type 0} (x : T) (k : E) (P Q : Type 0) → ((IsErrOf (Ok x) k × P) ⊎ Q) → Q
 asked_ok x k P Q (inl h) = let f : ⊥ = (let e = h.0 in cc) in absurd f
 asked_ok x k P Q (inr q) = q
 

@@ -44,7 +44,7 @@ use Rattle.bp_cli.specs.Migrating.{migrated_of}
 use Rattle.bp_cli.specs.inner.Opening.{AreOpened}
 use Rattle.bp_cli.specs.Runs.{Holds, KeepsLog, KeepsLogFront, TellsWhole, TellsPartly, RunEnds, IsRunOf, header_of}
 use Rattle.bp_cli.proofs.Asking.{IsBeforeLog, asks_some, at_most_unloaded, refused_asked, log_unloaded, log_refused}
-use Rattle.bp_cli.proofs.Audits.{audits_partly}
+use Rattle.bp_cli.proofs.Audits.{audits_partly, written_on}
 use Rattle.bp_cli.proofs.Beginnings.{as_many, beginning}
 use Rattle.bp_cli.proofs.Injected.{Brought, brought_none, all_of}
 use Rattle.bp_cli.proofs.Replays.{front_of, replay_partly}
@@ -82,8 +82,7 @@ first_text program o = refl
 -- a cause that is found later on is one of the whole
 pub caused_on : (before mid after : Outside) (c : Conclusion) → NeverFalls before mid → IsCaused mid after c → IsCaused before after c
 caused_on before mid after NotRead n h = rose_from before.read_faults mid.read_faults after.read_faults h n.0
-caused_on before mid after NotWritten n (inl h) = inl (rose_from before.print_faults mid.print_faults after.print_faults h n.2)
-caused_on before mid after NotWritten n (inr h) = inr (rose_from before.write_faults mid.write_faults after.write_faults h n.1)
+caused_on before mid after NotWritten n h = written_on before mid after n h
 caused_on before mid after NoMemory n h = tt
 caused_on before mid after NoCommand n h = tt
 caused_on before mid after (Refused refusal) n h = tt

@@ -83,10 +83,11 @@ pub(crate) fn audit_trace<W: World, K: Sink>(
     ensures counts { let seen = outside W.holds W.asked W.read_faults W.write_faults
         K.written K.faults in NeverFalls (seen world.old out.old) (seen world.new out.new) }
 {
-    let Loaded { program, bytes: _ } = match load(alloc, world, asked.program.as_str()) {
+    let loaded = match load(alloc, world, asked.program.as_str()) {
         Ok(loaded) => loaded,
         Err(why) => return Conclusion::from(why),
     };
+    let Loaded { program, bytes: _ } = loaded;
     match answer_about(alloc, program, asked, world) {
         Ok(answer) => tell_answer(alloc, answer, out),
         Err(fault) => Conclusion::unanswered(fault),
