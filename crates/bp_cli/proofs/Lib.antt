@@ -8,5 +8,6 @@ pub mod Migrations
 pub mod Opens
 pub mod Refused
 pub mod Replays
+pub mod Rows
 pub mod Runs
 pub mod Words
