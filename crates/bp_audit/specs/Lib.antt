@@ -1,6 +1,6 @@
 pub mod Lines
-pub mod Heads
+pub mod Claims
 pub mod Dues
 pub mod Standing
-pub mod Steps
+pub mod NextLines
 pub mod Rounds

@@ -3,13 +3,13 @@
 #![tactic(auto)]
 
 mod auditing;
+mod claims;
 mod fault;
-mod heads;
 mod lines;
+mod next_lines;
 mod reasons;
 mod resting;
 mod settling;
-mod stepping;
 mod tracing;
 
 pub use auditing::audit;

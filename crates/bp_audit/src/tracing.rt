@@ -1,18 +1,25 @@
 //! A trace, read from its first line to its end, or to the first wrong one.
-ghost use Rattle.std.specs.Prelude.{◌≡◌, ◌+◌, ◌-◌, ◌^◌, ◌<◌, ℕ, List, false, length, min, IfOk};
-ghost use Rattle.bp_code.specs.Code.{sealed_code_of as code_of};
+ghost use Rattle.std.specs.Prelude.{◌≡◌, ◌+◌, ◌-◌, ◌^◌, ◌∷◌, ℕ, List, false, min, IfOk};
+ghost use Rattle.js_value.specs.Value.{PlainSet};
+ghost use Rattle.js_meaning.specs.Bodies.{Origin};
+ghost use Rattle.bp_log.specs.Options.{PlainOptions};
 ghost use Rattle.bp_log.specs.declared.trace.Line.{Line as PlainLine};
+ghost use Rattle.bp_run.specs.Bodies.{Code};
+ghost use Rattle.bp_run.specs.Configuration.{Stand};
+ghost use Rattle.bp_code.specs.Code.{sealed_code_of as code_of};
 ghost use Rattle.bp_arbiter.specs.Arbiters.{is_lent};
+ghost use Rattle.bp_free.specs.declared.answer.Answer.TheVariants as answer;
+ghost use Rattle.bp_free.specs.Reasons.{line_in, reason_of};
 ghost use Rattle.bp_free.specs.Audits.{IsAudit};
 ghost use Rattle.bp_audit.specs.Standing.{IsSomewhere};
-ghost use Rattle.bp_audit.specs.Rounds.{IsReadTo, RoundAs};
+ghost use Rattle.bp_audit.specs.Rounds.{IsReadTo, RoundAs, answer_behind};
 
-use crate::heads::head_of;
+use crate::claims::claim_of;
 use crate::lines::{Front, Passed, front_of, pass};
+use crate::next_lines::{NextLine, read_next};
 use crate::reasons::reason_at_rest;
-use crate::resting::look;
+use crate::resting::due_of;
 use crate::settling::settle;
-use crate::stepping::{Step, take_step};
 use bp_floor::Floor;
 use bp_free::{Answer, Reason};
 use bp_log::{Line, Lines, Memory, Options};
@@ -31,7 +38,11 @@ fn counted(said: u32, more: usize) -> u32
 }
 
 /// The line of this number is the first wrong one: another is due.
-fn other_line(number: u32, line: Line, bytes: &[u8]) -> Answer {
+fn other_line(number: u32, line: Line, bytes: &[u8]) -> Answer
+    ensures { (l : Code Origin PlainSet) (o : PlainOptions) (s : Stand Origin)
+        (later : List PlainLine) →
+        result ≡ answer.No number (reason_of l o s (line ∷ later) (line_in bytes.now)) }
+{
     match front_of(bytes) {
         Front::Cut => Answer::No(number, Reason::Cut),
         Front::TooLong | Front::Whole(_, _) => Answer::No(number, Reason::Expected(line)),
@@ -40,7 +51,9 @@ fn other_line(number: u32, line: Line, bytes: &[u8]) -> Answer {
 
 /// What is answered where the verdict's line was there, and behind it this, from the line of this
 /// number on.
-fn behind_all(number: u32, bytes: &[u8], events: u32) -> Answer {
+fn behind_all(number: u32, bytes: &[u8], events: u32) -> Answer
+    ensures { result ≡ answer_behind number bytes.now events }
+{
     if bytes.is_empty() {
         return Answer::Yes(events);
     }
@@ -84,20 +97,20 @@ fn read_on<'a>(
         }
         Passed::All(left) => (counted(said, lines.as_slice().len()), left),
     };
-    let due = look(alloc, floor)?;
-    let head = head_of(alloc, rest)?;
-    match take_step(alloc, floor, &due, &head, rest)? {
-        Step::Moved(left) => {
+    let due = due_of(alloc, floor)?;
+    let claim = claim_of(alloc, rest)?;
+    match read_next(alloc, floor, &due, &claim, rest)? {
+        NextLine::Moved(left) => {
             // The line of the event was there.
             floor.take_lines();
             Ok(Round::Read(counted(said, 1), left))
         }
-        Step::Ended(left) => {
+        NextLine::Ended(left) => {
             let answer = behind_all(counted(said, 2), left, floor.transitions());
             Ok(Round::Answered(answer))
         }
-        Step::Wrong => {
-            let reason = reason_at_rest(alloc, floor, due, head)?;
+        NextLine::Wrong => {
+            let reason = reason_at_rest(alloc, floor, due, claim)?;
             Ok(Round::Answered(Answer::No(counted(said, 1), reason)))
         }
     }

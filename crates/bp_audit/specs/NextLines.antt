@@ -1,8 +1,8 @@
 -- The next line of a trace, as code finds it.
-use Rattle.std.specs.Prelude.{◌≡◌, ℕ, List, Option, Some, None, Ok}
-use Rattle.js_data.specs.Event.{PlainEvent}
+use Rattle.std.specs.Prelude.{◌≡◌, ℕ, true, false, List, Option, Some, None, Ok}
+use Rattle.std.specs.List.{list_any}
+use Rattle.js_data.specs.Event.{PlainEvent, same_event}
 use Rattle.js_meaning.specs.Bodies.{Origin}
-use Rattle.bp_log.specs.Texts.{line_text}
 use Rattle.bp_log.specs.declared.trace.Line.{Line}
 use Rattle.bp_log.specs.declared.trace.Line.TheVariants as trace
 use Rattle.bp_log.specs.declared.verdict.Verdict.{Verdict}
@@ -11,15 +11,17 @@ use Rattle.bp_run.specs.Selecting.{live}
 use Rattle.bp_run.specs.Choosing.{Touched, reach}
 use Rattle.bp_run.specs.Story.{line_of_choice, stepped}
 use Rattle.bp_floor.specs.Floors.{PlainFloor, code_on, stop_of}
+use Rattle.bp_arbiter.specs.Arbiters.{is_lent}
 use Rattle.bp_free.specs.Free.{IsFreeEnd}
-use Rattle.bp_free.specs.Nexts.{MayCome, MayBeNext}
-use Rattle.bp_audit.specs.declared.stepping.Step.{Step}
-use Rattle.bp_audit.specs.declared.stepping.Step.TheVariants.{Moved, Ended, Wrong}
+use Rattle.bp_free.specs.Nexts.{AreReal, MayCome, MayBeNext}
+use Rattle.bp_audit.specs.declared.resting.Selectable.{Selectable}
+use Rattle.bp_audit.specs.declared.next_lines.NextLine.{NextLine}
+use Rattle.bp_audit.specs.declared.next_lines.NextLine.TheVariants.{Moved, Ended, Wrong}
 use Rattle.bp_audit.specs.Lines.{Begins, IsNot}
 use Rattle.bp_audit.specs.Standing.{IsAt}
 
 -- the event of a pair, and where it leads
-pub record Steps (f : PlainFloor) (p : Pair Origin) (e : PlainEvent) (place : Option ℕ)
+pub record Leads (f : PlainFloor) (p : Pair Origin) (e : PlainEvent) (place : Option ℕ)
     (taken : List Line) (g : PlainFloor) : Type 0 where
   pub reached : List Touched
   pub reach_is : reach (code_on f).has e (live (code_on f) p.stand) ≡ Ok reached
@@ -28,21 +30,21 @@ pub record Steps (f : PlainFloor) (p : Pair Origin) (e : PlainEvent) (place : Op
 -- the floor went on with the event, which did not stop the run
 pub record GoesOn (f : PlainFloor) (e : PlainEvent) (place : Option ℕ) (g : PlainFloor) : Type 0 where
   pub free : stop_of f e ≡ None
-  pub steps : (taken : List Line) (p : Pair Origin) → IsAt f taken p → Steps f p e place taken g
+  pub unlent : is_lent g.phase ≡ false
+  pub steps : (taken : List Line) (p : Pair Origin) → IsAt f taken p → Leads f p e place taken g
 
 -- it did, and this is behind its line; or it stops the run, and the floor is as it was
-abbrev pub WentAs : PlainFloor → PlainEvent → Option ℕ → List ℕ → Step → PlainFloor → Type 0
+abbrev pub WentAs : PlainFloor → PlainEvent → Option ℕ → List ℕ → NextLine → PlainFloor → Type 0
 WentAs f e place rest (Moved left) g = GoesOn f e place g × (rest ≡ left.now)
 WentAs f e place rest (Ended left) g = ⊥
 WentAs f e place rest Wrong g = (v : Verdict) × (stop_of f e ≡ Some v) × (g ≡ f)
 
--- the next line is that of an event that may come, and of no other, and the floor went on with it
+-- the next line is that of an event that may come, and the floor went on with it
 pub record MovesAs (f : PlainFloor) (bytes rest : List ℕ) (g : PlainFloor) : Type 0 where
   pub event : PlainEvent
   pub place : Option ℕ
   pub comes : MayCome (code_on f) f.options f.pair.stand event place
-  pub apart : (e : PlainEvent) (q : Option ℕ) → MayCome (code_on f) f.options f.pair.stand e q →
-      line_text (line_of_choice e q) ≡ line_text (line_of_choice event place) → e ≡ event
+  pub real : AreReal comes.enabled f.pair.stand.queue
   pub line : Begins bytes (line_of_choice event place) rest
   pub goes : GoesOn f event place g
 
@@ -56,10 +58,16 @@ pub record EndsAs (f : PlainFloor) (bytes rest : List ℕ) : Type 0 where
 abbrev pub IsWrong : PlainFloor → List ℕ → Type 0
 IsWrong f bytes = (d : Line) → MayBeNext (code_on f) f.options f.pair.stand d → IsNot d bytes
 
-abbrev pub StepAs : PlainFloor → List ℕ → Step → PlainFloor → Type 0
-StepAs f bytes (Moved rest) g = MovesAs f bytes rest.now g
-StepAs f bytes (Ended rest) g = EndsAs f bytes rest.now × (g ≡ f)
-StepAs f bytes Wrong g = IsWrong f bytes × (g ≡ f)
+abbrev pub NextAs : PlainFloor → List ℕ → NextLine → PlainFloor → Type 0
+NextAs f bytes (Moved rest) g = MovesAs f bytes rest.now g
+NextAs f bytes (Ended rest) g = EndsAs f bytes rest.now × (g ≡ f)
+NextAs f bytes Wrong g = IsWrong f bytes × (g ≡ f)
+
+-- the next line is that of this verdict, or it is not
+abbrev pub VerdictAs : Verdict → List ℕ → NextLine → Type 0
+VerdictAs v bytes (Moved rest) = ⊥
+VerdictAs v bytes (Ended rest) = Begins bytes (trace.Verdict v) rest.now
+VerdictAs v bytes Wrong = IsNot (trace.Verdict v) bytes
 
 -- the event stops the run with a verdict whose line is there
 pub record StopsThere (f : PlainFloor) (e : PlainEvent) (bytes rest : List ℕ) : Type 0 where
@@ -67,7 +75,22 @@ pub record StopsThere (f : PlainFloor) (e : PlainEvent) (bytes rest : List ℕ) 
   pub stops : stop_of f e ≡ Some verdict
   pub line : Begins bytes (trace.Verdict verdict) rest
 
--- it does, and this is behind the line, or it does not
+-- whatever verdict it stops the run with, its line is not there
+abbrev pub StopsNot : PlainFloor → PlainEvent → List ℕ → Type 0
+StopsNot f e bytes = (v : Verdict) → stop_of f e ≡ Some v → IsNot (trace.Verdict v) bytes
+
 abbrev pub StopsWith : PlainFloor → PlainEvent → List ℕ → Option (List ℕ) → Type 0
 StopsWith f e bytes (Some rest) = StopsThere f e bytes rest
-StopsWith f e bytes None = (v : Verdict) → stop_of f e ≡ Some v → IsNot (trace.Verdict v) bytes
+StopsWith f e bytes None = StopsNot f e bytes
+
+-- one of the given events stops the run so
+pub record OneStops (f : PlainFloor) (events : List PlainEvent) (bytes rest : List ℕ) : Type 0 where
+  pub event : PlainEvent
+  pub among : list_any (same_event event) events ≡ true
+  pub stops : StopsThere f event bytes rest
+
+abbrev pub StopNext : PlainFloor → Selectable → List ℕ → NextLine → Type 0
+StopNext f given bytes (Moved rest) = ⊥
+StopNext f given bytes (Ended rest) = OneStops f given.events.items bytes rest.now
+StopNext f given bytes Wrong =
+    (e : PlainEvent) → list_any (same_event e) given.events.items ≡ true → StopsNot f e bytes

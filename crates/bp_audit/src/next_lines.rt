@@ -1,20 +1,18 @@
 //! The next line of a trace, where a floor rests.
 ghost use Rattle.std.specs.Prelude.{◌≡◌, true, false, IfOk, option_map};
-ghost use Rattle.std.specs.List.{list_any};
-ghost use Rattle.js_data.specs.Event.{same_event};
 ghost use Rattle.bp_log.specs.Texts.{whole_line};
 ghost use Rattle.bp_log.specs.declared.trace.Line.TheVariants as trace;
 ghost use Rattle.bp_reading.specs.Words.{behind};
 ghost use Rattle.bp_free.specs.Reasons.{line_in};
 ghost use Rattle.bp_floor.specs.declared.phase.Phase.TheVariants as phase;
 ghost use Rattle.bp_floor.specs.Floors.{CanGo, is_idle};
-ghost use Rattle.bp_audit.specs.Dues.{DueAs, due_on};
-ghost use Rattle.bp_audit.specs.Heads.{HeadAs};
-ghost use Rattle.bp_audit.specs.Steps.{StepAs, WentAs, StopsWith};
+ghost use Rattle.bp_audit.specs.Dues.{DueAs, IsOpenTo, due_on};
+ghost use Rattle.bp_audit.specs.Claims.{ClaimAs};
+ghost use Rattle.bp_audit.specs.NextLines.{NextAs, StopNext, StopsWith, VerdictAs, WentAs};
 
-use crate::heads::Head;
+use crate::claims::Claim;
 use crate::lines::behind_word;
-use crate::resting::{Due, Queued};
+use crate::resting::{Due, Selectable};
 use bp_floor::{Floor, Went};
 use bp_log::{Line, Memory, Verdict, whole_line_of};
 use js_data::Event;
@@ -22,7 +20,7 @@ use std::alloc::Global;
 
 /// What the next line is.
 #[derive(Clone, Copy)]
-pub(crate) enum Step<'a> {
+pub(crate) enum NextLine<'a> {
     /// That of an event, with which the floor went on; this is behind it.
     Moved(&'a [u8]),
     /// That of a verdict with which the run may end; this is behind it.
@@ -31,20 +29,12 @@ pub(crate) enum Step<'a> {
     Wrong,
 }
 
-/// Whether the event is one of these.
-fn is_among(events: &[Event], event: &Event) -> bool
-    ensures { result ≡ list_any (same_event event.now) events.now }
-{
-    for other in events {
-        if event.same(other) {
-            return true;
-        }
-    }
-    false
-}
-
 /// What is behind the line of this verdict, if it stands there.
-fn behind_verdict<'a>(alloc: Global, verdict: Verdict, bytes: &'a [u8]) -> Result<Option<&'a [u8]>, Memory>
+fn behind_verdict<'a>(
+    alloc: Global,
+    verdict: Verdict,
+    bytes: &'a [u8],
+) -> Result<Option<&'a [u8]>, Memory>
     ensures { IfOk result (λ o. option_map (λ rest. rest.now) o
         ≡ behind (whole_line (trace.Verdict verdict)) bytes.now) }
 {
@@ -80,90 +70,90 @@ fn go<'a>(
     event: &Event,
     place: Option<u32>,
     rest: &'a [u8],
-) -> Result<Step<'a>, Memory>
+) -> Result<NextLine<'a>, Memory>
     requires rest { floor.old.phase ≡ phase.Rest }
     requires whole { floor.old.broken ≡ false }
     requires can { CanGo floor.old event.now place }
     ensures { IfOk result (λ x. WentAs floor.old event.now place rest.now x floor.new) }
 {
     match floor.go(alloc, event, place)? {
-        Went::Moved => Ok(Step::Moved(rest)),
-        Went::Stopped(_) => Ok(Step::Wrong),
+        Went::Moved => Ok(NextLine::Moved(rest)),
+        Went::Stopped(_) => Ok(NextLine::Wrong),
     }
 }
 
 /// Where only this verdict may come.
-fn at_end<'a>(alloc: Global, verdict: &Verdict, bytes: &'a [u8]) -> Result<Step<'a>, Memory>
+fn at_end<'a>(alloc: Global, verdict: &Verdict, bytes: &'a [u8]) -> Result<NextLine<'a>, Memory>
+    ensures { IfOk result (VerdictAs verdict.now bytes.now) }
 {
     match behind_verdict(alloc, verdict.copy()?, bytes)? {
-        Some(rest) => Ok(Step::Ended(rest)),
-        None => Ok(Step::Wrong),
+        Some(rest) => Ok(NextLine::Ended(rest)),
+        None => Ok(NextLine::Wrong),
     }
 }
 
-/// Where one of these requested events may come.
-fn by_request<'a>(
+/// Where no line of an event stands: that of a verdict with which one of these stops the run.
+fn at_stop<'a>(
     alloc: Global,
     floor: &mut Floor,
-    events: &[Event],
-    head: &Head<'a>,
+    given: &Selectable,
     bytes: &'a [u8],
-) -> Result<Step<'a>, Memory>
+) -> Result<NextLine<'a>, Memory>
+    requires rest { floor.old.phase ≡ phase.Rest }
+    requires open { IsOpenTo floor.old given.now }
+    ensures stops { IfOk result (StopNext floor.old given.now bytes.now) }
+    ensures same { floor.new ≡ floor.old }
 {
-    if let Head::Event(event, rest) = head {
-        if !is_among(events, event) {
-            return Ok(Step::Wrong);
-        }
-        return go(alloc, floor, event, None, rest);
-    }
-    for event in events {
-        if let Some(rest) = behind_stop(alloc, floor, event, None, bytes)? {
-            return Ok(Step::Ended(rest));
+    for event in &given.events {
+        if let Some(rest) = behind_stop(alloc, floor, event, given.place, bytes)? {
+            return Ok(NextLine::Ended(rest));
         }
     }
-    Ok(Step::Wrong)
+    Ok(NextLine::Wrong)
 }
 
-/// Where this event of the queue may come.
-fn by_queue<'a>(
+/// Where one of these events may come.
+fn when_open<'a>(
     alloc: Global,
     floor: &mut Floor,
-    first: &Queued,
-    head: &Head<'a>,
+    given: &Selectable,
+    claim: &Claim<'a>,
     bytes: &'a [u8],
-) -> Result<Step<'a>, Memory>
+) -> Result<NextLine<'a>, Memory>
+    requires rest { floor.old.phase ≡ phase.Rest }
+    requires whole { floor.old.broken ≡ false }
+    requires open { IsOpenTo floor.old given.now }
+    requires claim { ClaimAs (line_in bytes.now) claim.now }
+    ensures { IfOk result (λ x. NextAs floor.old bytes.now x floor.new) }
 {
-    if let Head::External(event, rest) = head {
-        if !event.same(&first.event) {
-            return Ok(Step::Wrong);
-        }
-        return go(alloc, floor, event, Some(first.place), rest);
+    let Some((event, rest)) = claim.event_from(given.place) else {
+        return at_stop(alloc, floor, given, bytes);
+    };
+    if !given.has(event) {
+        return Ok(NextLine::Wrong);
     }
-    match behind_stop(alloc, floor, &first.event, Some(first.place), bytes)? {
-        Some(rest) => Ok(Step::Ended(rest)),
-        None => Ok(Step::Wrong),
-    }
+    go(alloc, floor, event, given.place, rest)
 }
 
 /// What the next line is, where nobody is to be run and all lines that are due were there.
-pub(crate) fn take_step<'a>(
+pub(crate) fn read_next<'a>(
     alloc: Global,
     floor: &mut Floor,
     due: &Due,
-    head: &Head<'a>,
+    claim: &Claim<'a>,
     bytes: &'a [u8],
-) -> Result<Step<'a>, Memory>
+) -> Result<NextLine<'a>, Memory>
     requires idle { is_idle floor.old.phase ≡ true }
     requires whole { floor.old.broken ≡ false }
     requires due { DueAs (due_on floor.old) floor.old.pair.stand.queue due.now }
-    requires head { HeadAs (line_in bytes.now) head.now }
-    ensures { IfOk result (λ x. StepAs floor.old bytes.now x floor.new) }
+    requires claim { ClaimAs (line_in bytes.now) claim.now }
+    ensures { IfOk result (λ x. NextAs floor.old bytes.now x floor.new) }
 {
     // For the proof: what the floor keeps.
     floor.keeps();
     match due {
-        Due::Ends(verdict) | Due::Idles(verdict) => at_end(alloc, verdict, bytes),
-        Due::Requested(events) => by_request(alloc, floor, events.as_slice(), head, bytes),
-        Due::Queued(first) => by_queue(alloc, floor, first, head, bytes),
+        Due::Ends(verdict) => at_end(alloc, verdict, bytes),
+        Due::Idles(verdict) => at_end(alloc, verdict, bytes),
+        Due::Goes(given) => when_open(alloc, floor, given, claim, bytes),
     }
 }

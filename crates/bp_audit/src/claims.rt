@@ -1,7 +1,7 @@
 //! What the next line of a trace says.
-ghost use Rattle.std.specs.Prelude.{◌≡◌, IfOk};
+ghost use Rattle.std.specs.Prelude.{◌≡◌, IfOk, option_map};
 ghost use Rattle.bp_free.specs.Reasons.{line_in, event_behind};
-ghost use Rattle.bp_audit.specs.Heads.{HeadAs};
+ghost use Rattle.bp_audit.specs.Claims.{ClaimAs, claimed_from};
 
 use crate::lines::{Front, behind_word, front_of};
 use bp_log::Memory;
@@ -11,7 +11,7 @@ use std::alloc::{AllocError, Global};
 
 /// What the next line of a trace says.
 #[derive(Drop)]
-pub(crate) enum Head<'a> {
+pub(crate) enum Claim<'a> {
     /// Nothing: the trace ends before its LF.
     Cut,
     /// Nothing: it has more bytes than a line may have.
@@ -22,6 +22,25 @@ pub(crate) enum Head<'a> {
     External(Event, &'a [u8]),
     /// Something else.
     Other,
+}
+
+impl<'a> Claim<'a> {
+    /// The event of the line, if it is one that comes from such a place, and what is behind the line.
+    pub(crate) fn event_from(&self, place: Option<u32>) -> Option<(&Event, &'a [u8])>
+        ensures { option_map (λ p. (p.0.now, p.1.now)) result ≡ claimed_from self.now place }
+    {
+        match self {
+            Claim::Event(event, rest) => match place {
+                None => Some((event, *rest)),
+                Some(_) => None,
+            },
+            Claim::External(event, rest) => match place {
+                None => None,
+                Some(_) => Some((event, *rest)),
+            },
+            Claim::Cut | Claim::TooLong | Claim::Other => None,
+        }
+    }
 }
 
 /// The event whose compact text stands behind this word.
@@ -46,19 +65,19 @@ fn event_after(alloc: Global, word: &[u8], line: &[u8]) -> Result<Option<Event>,
 }
 
 /// What the next line says.
-pub(crate) fn head_of<'a>(alloc: Global, bytes: &'a [u8]) -> Result<Head<'a>, Memory>
-    ensures { IfOk result (HeadAs (line_in bytes.now)) }
+pub(crate) fn claim_of<'a>(alloc: Global, bytes: &'a [u8]) -> Result<Claim<'a>, Memory>
+    ensures { IfOk result (ClaimAs (line_in bytes.now)) }
 {
     let (line, rest) = match front_of(bytes) {
-        Front::Cut => return Ok(Head::Cut),
-        Front::TooLong => return Ok(Head::TooLong),
+        Front::Cut => return Ok(Claim::Cut),
+        Front::TooLong => return Ok(Claim::TooLong),
         Front::Whole(line, rest) => (line, rest),
     };
     if let Some(event) = event_after(alloc, b"event ", line)? {
-        return Ok(Head::Event(event, rest));
+        return Ok(Claim::Event(event, rest));
     }
     if let Some(event) = event_after(alloc, b"external ", line)? {
-        return Ok(Head::External(event, rest));
+        return Ok(Claim::External(event, rest));
     }
-    Ok(Head::Other)
+    Ok(Claim::Other)
 }
