@@ -1,5 +1,5 @@
 -- Traces that are compared with the free runs of a program.
-use Rattle.std.specs.Prelude.{◌≡◌, ◌×◌, ℕ, List, Option, IfSome, IsSomeAnd}
+use Rattle.std.specs.Prelude.{◌≡◌, ℕ, List, Option, IfSome, IsSomeAnd}
 use Rattle.bp_base.specs.Pieces.{Appends}
 use Rattle.bp_base.specs.Worlds.{Holdings}
 use Rattle.js_program.specs.PlainProgram.{PlainProgram}
